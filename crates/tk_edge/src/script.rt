@@ -1,0 +1,39 @@
+ghost use Rattle.std.specs.Prelude.{◌≡◌, ◌+◌, ◌-◌, ◌^◌, ◌≤◌, ◌↔◌, min, true, Contains, IsTrue};
+ghost use Rattle.tk_edge.specs.Faults.{Rose};
+
+use tk_types::List;
+
+/// Which calls are to fail, by their numbers from 0, and how many did.
+#[derive(Drop)]
+pub struct Script {
+    pub failing: List<u64>,
+    pub calls: u64,
+    pub faults: u64,
+}
+
+impl Script {
+    pub fn new(failing: List<u64>) -> Self
+        ensures { result ≡ record { failing = failing; calls = 0; faults = 0 } }
+    {
+        Script {
+            failing,
+            calls: 0,
+            faults: 0,
+        }
+    }
+
+    /// Counts one more call and tells whether it is to fail, which counts as a fault. Counts stop at their type's end.
+    pub fn fails(&mut self) -> bool
+        ensures scripted { IsTrue result ↔ Contains self.old.failing self.old.calls }
+        ensures counted { self.new.calls ≡ min (self.old.calls + 1) (2 ^ 64 - 1) }
+        ensures rose { result ≡ true → Rose self.old.faults self.new.faults }
+        ensures never_falls { self.old.faults ≤ self.new.faults }
+    {
+        let fails = self.failing.as_slice().contains(&self.calls);
+        self.calls = self.calls.saturating_add(1);
+        if fails {
+            self.faults = self.faults.saturating_add(1);
+        }
+        fails
+    }
+}

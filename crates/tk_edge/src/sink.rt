@@ -1,0 +1,28 @@
+ghost use Rattle.std.specs.Prelude.{◌≡◌, ◌<◌, ◌≤◌, List, Option, ℕ, length, IfOk, IsErrOf};
+ghost use Rattle.std.specs.Io.KnownBytes.{WriteAppends};
+ghost use Rattle.tk_edge.specs.Faults.{Rose};
+
+/// Why a write was refused: the outside failed, or memory ran out.
+#[derive(Clone, Copy, Debug, PartialEq, Eq)]
+pub enum Miss {
+    Failed,
+    Memory,
+}
+
+/// Where bytes go, in pieces.
+pub trait Sink {
+    /// The bytes that were written, where the sink tells them.
+    ghost written: { Self → Option (List ℕ) };
+
+    /// How often a write has failed, a number that never falls.
+    ghost faults: { Self → ℕ };
+
+    /// Writes bytes from the front of `piece` and gives their number. A sink that takes nothing of a piece that isn't
+    /// empty has failed.
+    fn write(&mut self, piece: &[u8]) -> Result<usize, Miss>
+        ensures count { IfOk result (λ n. n ≤ length piece.now) }
+        ensures bytes { WriteAppends (written self.old) (written self.new) result piece.now }
+        ensures nothing_taken { IfOk result (λ n. n ≡ 0 → 0 < length piece.now → Rose (faults self.old) (faults self.new)) }
+        ensures failed { IsErrOf result Miss.Failed → Rose (faults self.old) (faults self.new) }
+        ensures never_falls { faults self.old ≤ faults self.new };
+}
