@@ -1,0 +1,12 @@
+mod Examples
+pub mod Among
+pub mod Ascending
+pub mod ChildLists
+pub mod CycleFound
+pub mod LeftOver
+pub mod Outcome
+pub mod PlacesWhere
+pub mod Removing
+pub mod TaskParents
+pub mod UnknownFrom
+pub mod WalkSteps

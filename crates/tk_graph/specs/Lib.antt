@@ -1,0 +1,6 @@
+pub mod Cycle
+pub mod Index
+pub mod Order
+pub mod Parents
+pub mod Removal
+pub mod Unknown

@@ -1,0 +1,19 @@
+//! The order of a pipeline's tasks. A task's parents are the tasks that it names. `order` gives ranks that rise
+//! from each parent to its child, or tells the first name that no task has, or the names of a cycle. Ranks exist
+//! exactly where no task is its own ancestor.
+#![tactic(auto)]
+
+mod above;
+mod below;
+pub mod laws;
+mod names;
+mod ordering;
+mod refusal;
+mod removal;
+mod unknown;
+mod walk;
+
+pub use above::{all_parents, parents};
+pub use names::Names;
+pub use ordering::{Ranks, order};
+pub use refusal::OrderError;

@@ -1,0 +1,179 @@
+ghost use Rattle.std.specs.Prelude.{◌≡◌, ◌<◌, ◌^◌, None, length, map, IfOk, IfErr, OnOk};
+ghost use Rattle.std.specs.List.{range_with_len};
+ghost use Rattle.tk_graph.specs.Order.{IsOrderRefusal};
+ghost use Rattle.tk_graph.specs.Parents.{parents as parents_of, IsRanking};
+ghost use Rattle.tk_graph.specs.Unknown.{first_unknown as first_unknown_of};
+
+use crate::above::edges;
+use crate::names::Names;
+use crate::refusal::OrderError;
+use crate::removal::{places, remove};
+use crate::unknown::first_unknown;
+use crate::walk::{first_left, names_at, walk};
+use std::alloc::Global;
+use tk_types::{List, PipelineTask};
+
+/// A rank for each task, by its place.
+#[derive(Drop)]
+pub struct Ranks {
+    pub list: List<u32>,
+}
+
+/// Ranks, or the cycle that keeps tasks from having them.
+fn ranked(alloc: Global, tasks: &[PipelineTask], above: &[List<u32>]) -> Result<Ranks, OrderError>
+    requires few { length tasks.now < 2 ^ 32 }
+    requires known { first_unknown_of tasks.now ≡ None }
+    requires parents { above.now ≡ map (parents_of tasks.now) (range_with_len 0 (length tasks.now)) }
+    ensures ranks { IfOk result (λ ranks. IsRanking tasks.now ranks.list) }
+    ensures refused { IfErr result (IsOrderRefusal tasks.now) }
+{
+    let ranks = remove(alloc, above)?;
+    let all = places(alloc, tasks.len())?;
+    let Some(first) = first_left(all.as_slice(), ranks.as_slice()) else {
+        return Ok(Ranks {
+            list: List::from_vec(ranks),
+        });
+    };
+    let cycle = walk(alloc, above, ranks.as_slice(), first)?;
+    let names = names_at(alloc, tasks, cycle.as_slice())?;
+    Err(OrderError::Cycle { names })
+}
+
+/// Ranks that rise from each parent to its child, in time near the number of tasks and parents. Refused are a name of a
+/// parent that no task has, the first by the task's place and then by the order of its names, and after that a cycle:
+/// from the first task that can't be ranked to its first parent that can't be, and so on until one comes twice, the
+/// names from its first coming on (Tekton, Pipelines, Using the runAfter field).
+pub fn order(alloc: Global, tasks: &[PipelineTask]) -> Result<Ranks, OrderError>
+    requires { length tasks.now < 2 ^ 32 }
+    ensures ranks { IfOk result (λ ranks. IsRanking tasks.now ranks.list) }
+    ensures known { OnOk result (first_unknown_of tasks.now ≡ None) }
+    ensures refused { IfErr result (IsOrderRefusal tasks.now) }
+{
+    let names = Names::new(alloc, tasks)?;
+    if let Some((task, name)) = first_unknown(alloc, &names)? {
+        return Err(OrderError::UnknownTask { task, name });
+    }
+    let above = edges(alloc, &names)?;
+    ranked(alloc, tasks, above.as_slice())
+}
+
+#[cfg(test)]
+mod tests {
+    use super::*;
+    use crate::above::{all_parents, parents};
+    use std::alloc::AllocError;
+    use std::process::Abort;
+    use std::test::Fail;
+    use tk_types::{TaskSource, Text};
+
+    fn task(alloc: Global, words: &str) -> Result<PipelineTask, AllocError> {
+        let mut name = Text::new(alloc);
+        let mut run_after = List::new(alloc);
+        for (i, word) in words.split(' ').enumerate() {
+            if i == 0 {
+                name = Text::from_str(alloc, word)?;
+            } else {
+                run_after.push(Text::from_str(alloc, word)?)?;
+            }
+        }
+        Ok(PipelineTask {
+            name,
+            source: TaskSource::Named(Text::new(alloc)),
+            params: List::new(alloc),
+            matrix: None,
+            run_after,
+            when: List::new(alloc),
+            retries: 0,
+            timeout: 0,
+            ignore_failure: false,
+            spaces: List::new(alloc),
+        })
+    }
+
+    /// Tasks, each as its name and the names after which it runs.
+    fn tasks(alloc: Global, text: &str) -> Result<Vec<PipelineTask>, AllocError> {
+        let mut tasks = Vec::new(alloc);
+        for words in text.split(',') {
+            tasks.push(task(alloc, words)?)?;
+        }
+        Ok(tasks)
+    }
+
+    fn answer(
+        rt: &impl Abort,
+        alloc: Global,
+        tasks: &[PipelineTask],
+    ) -> Result<String, AllocError> {
+        assert!(rt; tasks.len() < 1000);
+        let mut line = String::new(alloc);
+        match order(alloc, tasks) {
+            Ok(_ranks) => line.push_str("ranks")?,
+            Err(OrderError::UnknownTask { task, name }) => {
+                line = format!(in alloc; "unknown {task} {}", name.as_str())?;
+            }
+            Err(OrderError::Cycle { names: told }) => {
+                line.push_str("cycle")?;
+                for name in told.as_slice() {
+                    line.push_str(" ")?;
+                    line.push_str(name.as_str())?;
+                }
+            }
+            Err(OrderError::Memory) => line.push_str("memory")?,
+        }
+        Ok(line)
+    }
+
+    #[test]
+    fn orders(rt: HostRuntime) -> Result<(), Fail> {
+        for (text, told) in [
+            ("a,b a", "ranks"),
+            ("b a,a", "ranks"),
+            ("a,b a a,c b a b,a", "ranks"),
+            ("a b,b a", "cycle a b"),
+            ("a,b b", "cycle b"),
+            ("d,a d c,b c,c b", "cycle c b"),
+            ("a c b,b a,c a", "cycle a b"),
+            ("a,b a y x,c w", "unknown 1 y"),
+            ("a b,b a,c d", "unknown 2 d"),
+        ] {
+            let tasks = tasks(rt.alloc(), text)?;
+            assert_eq!(rt;
+                answer(&rt, rt.alloc(), tasks.as_slice())?.as_str(),
+                told,
+                "at {text}"
+            );
+        }
+        Ok(())
+    }
+
+    #[test]
+    fn parents_and_ranks(rt: HostRuntime) -> Result<(), Fail> {
+        let tasks = tasks(rt.alloc(), "a,b a a,a")?;
+        assert_eq!(rt; tasks.len(), 3);
+        let places = parents(rt.alloc(), tasks.as_slice(), 1)?;
+        assert_eq!(rt; places.as_slice(), [0, 2].as_slice());
+        let all = all_parents(rt.alloc(), tasks.as_slice())?;
+        assert_eq!(rt; all.as_slice().len(), 3);
+        assert_eq!(rt; all.as_slice()[1].as_slice(), [0, 2].as_slice());
+        let Ok(ranks) = order(rt.alloc(), tasks.as_slice()) else {
+            return Err("no ranks".into());
+        };
+        let ranks = ranks.list.as_slice();
+        assert_eq!(rt; ranks.len(), 3);
+        assert!(rt; ranks[0] < ranks[1] && ranks[2] < ranks[1]);
+        Ok(())
+    }
+
+    #[test]
+    fn long_chain(rt: HostRuntime) -> Result<(), Fail> {
+        let alloc = rt.alloc();
+        let mut tasks = Vec::new(alloc);
+        for i in 0..300u32 {
+            let words = format!(in alloc; "t{i} t{}", i + 1)?;
+            tasks.push(task(alloc, words.as_str())?)?;
+        }
+        tasks.push(task(alloc, "t300")?)?;
+        assert_eq!(rt; answer(&rt, alloc, tasks.as_slice())?.as_str(), "ranks");
+        Ok(())
+    }
+}

@@ -1,0 +1,16 @@
+//! The combinations of a matrix: how many there are, one of them by its index, and all of them in order. Each is
+//! exactly what its definition gives: a text of each list, the first parameter varying fastest, extended by the
+//! include entries that agree with it, and then the entries that agree with none.
+#![tactic(auto)]
+
+mod choice;
+mod include;
+pub mod laws;
+mod listing;
+mod product;
+mod size;
+#[cfg(test)]
+mod tests;
+
+pub use listing::{all, combination};
+pub use size::{MAX_COMBINATIONS, TooLarge, count};

@@ -1,0 +1,4 @@
+pub mod ClashLaw
+pub mod Cut
+pub mod Earlier
+pub mod Examples

@@ -1,0 +1,16 @@
+pub mod BadOffset
+pub mod BracketFacts
+pub mod BuildFacts
+pub mod Examples
+pub mod HeadFacts
+pub mod OffsetFacts
+pub mod OneReading
+pub mod PartFacts
+pub mod ReferenceFacts
+pub mod ScanFacts
+pub mod ShapeFacts
+pub mod SplitFacts
+pub mod StandFacts
+pub mod TableFacts
+pub mod TailFacts
+pub mod TextFacts

@@ -1,0 +1,10 @@
+use Rattle.std.proofs.Common.{arith}
+use Rattle.tk_vars.proofs.StandFacts.{split_found, split_none}
+use Rattle.std.proofs.lemmas.Str.Pattern.{split_parts}
+use Rattle.tk_vars.proofs.splitting.split_end.Goals as goal
+
+pub returns-clause-found : goal.returns-clause-found
+returns-clause-found c = split_found 41 c.args.text.now c.split_once.result (split_parts 41 c.args.text.now c.split_once.result c.split_once.ensures.cases (omega arith))
+
+pub returns-clause-none : goal.returns-clause-none
+returns-clause-none c = split_none 41 c.args.text.now c.split_once.result (split_parts 41 c.args.text.now c.split_once.result c.split_once.ensures.cases (omega arith))

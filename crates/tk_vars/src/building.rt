@@ -1,0 +1,100 @@
+ghost use Rattle.std.specs.Prelude.{◌≡◌, true, ◌≤◌, [], ◌∷◌, length, IfOk, MatchOption};
+ghost use Rattle.std.specs.Str.{IsUtf8, all_ascii_digits};
+ghost use Rattle.tk_vars.specs.Grammar.{parts, is_reference};
+ghost use Rattle.tk_vars.specs.Reading.{number_of, bracketed, parts_from, reference_of};
+ghost use Rattle.tk_vars.specs.Steps.{is_inside, is_tail, IsFirstPart};
+
+use crate::grammar::is_index;
+use crate::part::Part;
+use crate::parts::Parts;
+use crate::reference::Reference;
+use crate::splitting::{split_bracketed, split_dotted, split_head};
+use crate::word::Word;
+use std::alloc::{AllocError, Global};
+
+/// A word of these bytes, which are a text.
+fn word_of(alloc: Global, bytes: &[u8]) -> Result<Word, AllocError>
+    requires { IsUtf8 bytes.now }
+    ensures { IfOk result (λ word. word ≡ bytes.now) }
+{
+    match str::from_utf8(bytes) {
+        Ok(text) => Word::from_str(alloc, text),
+        Err(_) => unreachable!(),
+    }
+}
+
+/// The number that the digits write.
+fn number_of(digits: &[u8]) -> u32
+    requires digits { all_ascii_digits digits.now ≡ true }
+    requires short { length digits.now ≤ 9 }
+    ensures { result ≡ number_of digits.now }
+{
+    let mut number = 0u32;
+    for digit in digits {
+        number = number * 10 + u32::from(*digit - b'0');
+    }
+    number
+}
+
+/// The part that stands in brackets.
+fn bracketed(alloc: Global, inner: &[u8]) -> Result<Part, AllocError>
+    requires { is_inside inner.now ≡ true }
+    ensures { IfOk result (λ part. part ≡ bracketed inner.now) }
+{
+    if inner == b"*".as_slice() {
+        return Ok(Part::Star);
+    }
+    if is_index(inner) {
+        return Ok(Part::Index(number_of(inner)));
+    }
+    let name = word_of(alloc, &inner[1..inner.len() - 1])?;
+    Ok(Part::Name(name))
+}
+
+/// The first part and what follows it, or nothing where no part is left.
+fn first_part(alloc: Global, tail: &[u8]) -> Result<Option<(Part, &[u8])>, AllocError>
+    requires { is_tail (parts ∷ []) tail.now ≡ true }
+    ensures { IfOk result (λ first. MatchOption first (tail.now ≡ []) (λ f. IsFirstPart tail.now f.0 f.1.now)) }
+{
+    if let Some((name, rest)) = split_dotted(tail) {
+        let name = word_of(alloc, name)?;
+        return Ok(Some((Part::Name(name), rest)));
+    }
+    match split_bracketed(tail) {
+        Some((inner, rest)) => {
+            let part = bracketed(alloc, inner)?;
+            Ok(Some((part, rest)))
+        }
+        None => Ok(None),
+    }
+}
+
+/// The head and the parts behind it.
+fn parts_of(alloc: Global, head: &[u8], tail: &[u8]) -> Result<Parts, AllocError>
+    requires head { IsUtf8 head.now }
+    requires tail { is_tail (parts ∷ []) tail.now ≡ true }
+    ensures { IfOk result (λ list. list ≡ Part.Name head.now ∷ parts_from 0 tail.now) }
+{
+    let mut list = Vec::new(alloc);
+    list.push(Part::Name(word_of(alloc, head)?))?;
+    let mut rest = tail;
+    while let Some((part, others)) = first_part(alloc, rest)? {
+        list.push(part)?;
+        rest = others;
+    }
+    Ok(Parts::from_vec(list))
+}
+
+/// The reference with this text between `$(` and `)`.
+pub(crate) fn reference_of(alloc: Global, inner: &str) -> Result<Reference, AllocError>
+    requires { is_reference (reference_of inner.now) ≡ true }
+    ensures { IfOk result (λ reference. reference ≡ reference_of inner.now) }
+{
+    let (head, tail) = split_head(inner.as_bytes());
+    let parts = parts_of(alloc, head, tail)?;
+    let spelling = format!(in alloc; "$({inner})")?;
+    Ok(Reference {
+        spelling: Word::from_string(spelling),
+        parts,
+    })
+}

@@ -1,0 +1,29 @@
+//! The references in a text: `$(params.x)`, `$(tasks.a.results.r[*])` and their kin.
+//!
+//! `scan` splits a text into plain pieces and references. The pieces are the one reading that the text has, and
+//! joined they are the text. A text without a reading is refused with the first byte at which a reference must stand
+//! and none does; want of memory is the only other refusal. What a reference is stands in `specs/Grammar.antt`, what
+//! a reading is in `specs/Reading.antt`, and what a reference refers to in `specs/Target.antt`.
+#![tactic(auto)]
+
+mod building;
+mod error;
+mod grammar;
+pub mod laws;
+mod part;
+mod parts;
+mod piece;
+mod pieces;
+mod reference;
+mod scanner;
+mod splitting;
+mod word;
+
+pub use error::ScanError;
+pub use part::Part;
+pub use parts::Parts;
+pub use piece::Piece;
+pub use pieces::Pieces;
+pub use reference::Reference;
+pub use scanner::scan;
+pub use word::Word;

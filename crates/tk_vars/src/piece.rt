@@ -1,0 +1,11 @@
+use crate::reference::Reference;
+use crate::word::Word;
+
+/// One piece of a text.
+#[derive(Debug, Drop)]
+pub enum Piece {
+    /// Text that stays as it is written.
+    Plain(Word),
+    /// A reference.
+    Ref(Reference),
+}

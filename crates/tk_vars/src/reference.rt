@@ -1,0 +1,11 @@
+use crate::parts::Parts;
+use crate::word::Word;
+
+/// A reference.
+#[derive(Debug, Drop)]
+pub struct Reference {
+    /// As it is written, from `$(` to `)`.
+    pub spelling: Word,
+    /// The head and what follows it.
+    pub parts: Parts,
+}
