@@ -13,6 +13,8 @@ mod outcome;
 mod sequence;
 mod tallies;
 mod tally;
+#[cfg(test)]
+mod tests;
 mod walk;
 
 pub use calls::{condition, verdicts, verdicts_by};

@@ -1,12 +1,12 @@
 -- Ends of an input that is too long, and of one that isn't answered.
-use Rattle.std.proofs.Common.{◌≡◌, ℕ, ◌<◌, true, cond, List, [], ◌++◌, length, replicate, refl, subst, sym, ap, ◌∙◌, Some, None, arith, nat_lt}
+use Rattle.std.proofs.Common.{◌≡◌, ℕ, ◌<◌, true, cond, List, [], length, replicate, refl, subst, sym, ap, ◌∙◌, Some, None, arith, nat_lt}
 use Rattle.std.specs.Prelude.{Option, IfSome}
 use Rattle.std.proofs.lemmas.List.{append-nil, length-replicate}
 use Rattle.std.proofs.lemmas.Bool.Decides.{nat_tests}
 use Rattle.tk_types.specs.Fault.{too_long}
 use Rattle.tk_types.specs.declared.fault.Fault.{Fault}
 use Rattle.tkn.specs.declared.due.Due.{Due}
-use Rattle.tkn.specs.Due.{due_of, longest_input, rejected, answer, json_answer, json_of}
+use Rattle.tkn.specs.Due.{due_of, rejected, answer, json_answer, json_of}
 use Rattle.tkn.specs.Plain.{IsDue, PrintsFront}
 
 -- the fault of an input that is longer than the longest

@@ -1,25 +1,22 @@
 -- The facts of an input of the first form are well formed and plain.
 use Rattle.std.proofs.Common.{◌≡◌, ◌≢◌, ℕ, zero, suc, ◌+◌, ◌-◌, ◌<◌, ◌≤◌, ◌==◌, Bool, true, false, ◌&&◌, ◌||◌, cond, List, [], ◌∷◌, ◌++◌, length, map, get_or, refl, sym, ap, subst, ◌∙◌, add-zero, Some, None, arith}
-use Rattle.std.specs.Prelude.{Option, Err, AllPairs, IsTrue, filter, slice_get, unwrap_or, bytes_eq, nat_lt}
-use Rattle.std.specs.List.{list_any, list_all, enumerate_from, range_with_len}
+use Rattle.std.specs.Prelude.{Option, Err, AllPairs, filter, slice_get, unwrap_or, bytes_eq, nat_lt}
+use Rattle.std.specs.List.{list_any, list_all, enumerate_from}
 use Rattle.std.proofs.lemmas.Bool.{ne_eqb, lt-ltb}
 use Rattle.std.proofs.lemmas.List.{append-nil, length-map}
-use Rattle.std.proofs.lemmas.List.Sums.{AllPass-from_list_all, list_all-from_AllPass}
+use Rattle.std.proofs.lemmas.List.Sums.{AllPass-from_list_all}
 use Rattle.std.proofs.lemmas.Slice.Eq.{bytes_eq-Decides}
-use Rattle.tk_types.specs.Lists.{places_where}
 use Rattle.tk_types.specs.declared.object.OutcomesChild.{OutcomesChild}
 use Rattle.tk_types.specs.declared.run.Child.{Child}
 use Rattle.tk_types.specs.declared.fault.Fault.{Fault}
 use Rattle.tk_types.specs.declared.rejected.Rejected.{Rejected}
 use Rattle.tk_types.specs.declared.rejected.Rejected.TheVariants.{Memory, Fault as FaultFound}
-use Rattle.tk_types.specs.declared.run.Facts.{Facts}
 use Rattle.tk_types.specs.declared.run.RunSpec.{RunSpec}
 use Rattle.tk_types.specs.Fault.{unsupported}
 use Rattle.tk_types.specs.Place.{root}
 use Rattle.tk_types.specs.Rejected.{IsRefusal}
 use Rattle.tk_types.specs.declared.task.PipelineTask.{PipelineTask}
-use Rattle.tk_names.specs.Clash.{clash, name_at, DifferBelow}
-use Rattle.tk_graph.specs.Index.{places_of_name}
+use Rattle.tk_names.specs.Clash.{clash, DifferBelow}
 use Rattle.tk_graph.specs.Parents.{IsAcyclic, IsRanking}
 use Rattle.tk_graph.specs.Unknown.{first_unknown, is_known}
 use Rattle.tk_verdict.specs.Plain.{IsPlain}

@@ -1,6 +1,6 @@
 -- Lines that are written one by one, and texts that are JSON.
-use Rattle.std.proofs.Common.{◌≡◌, ℕ, ◌+◌, ◌<◌, Bool, true, false, cond, List, [], ◌∷◌, ◌++◌, length, map, get_or, refl, sym, ap, subst, ◌∙◌, zero-add, append_assoc, Some, None, arith}
-use Rattle.std.specs.Prelude.{Option, IsUtf8, flat_map, slice_get}
+use Rattle.std.proofs.Common.{◌≡◌, ℕ, ◌+◌, ◌<◌, Bool, true, false, cond, List, [], ◌∷◌, ◌++◌, length, map, get_or, refl, sym, ap, ◌∙◌, zero-add, append_assoc, None}
+use Rattle.std.specs.Prelude.{Option, IsUtf8, flat_map}
 use Rattle.std.specs.List.{range_with_len}
 use Rattle.std.specs.Option.{option_map_or}
 use Rattle.std.specs.Str.{is_utf8}

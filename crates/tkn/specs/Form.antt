@@ -1,9 +1,8 @@
 -- The first form of an input: which JSON values have it, and what they say.
-use Rattle.std.specs.Prelude.{ℕ, Bool, true, false, not, ◌&&◌, ◌||◌, ◌==◌, nat_le, nat_lt, List, [], ◌∷◌, length, map, Option, Some, None, is_none, is_some, unwrap_or, option_map, option_and_then, codes, bytes_eq, slice_index_or, if◌then◌else◌}
-use Rattle.std.specs.List.{list_any, list_all}
+use Rattle.std.specs.Prelude.{ℕ, Bool, true, false, ◌&&◌, ◌==◌, nat_le, nat_lt, List, [], ◌∷◌, length, map, Option, Some, None, is_none, is_some, unwrap_or, option_and_then, codes, bytes_eq, if◌then◌else◌}
 use Rattle.std.specs.Option.{option_map_or}
-use Rattle.serde_json.specs.Data.{Data, null}
-use Rattle.serde_json.specs.Find.{get, as_number, as_str, as_u64}
+use Rattle.serde_json.specs.Data.{Data}
+use Rattle.serde_json.specs.Find.{get, as_number, as_u64}
 use Rattle.tk_types.specs.Lists.{first_row}
 use Rattle.tk_types.specs.declared.object.OutcomesChild.{OutcomesChild}
 use Rattle.tk_types.specs.declared.run.Outcome.{Outcome}

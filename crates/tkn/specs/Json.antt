@@ -1,10 +1,9 @@
 -- What stands in a JSON value, with a value for what doesn't.
-use Rattle.std.specs.Prelude.{ℕ, Bool, not, ◌&&◌, ◌||◌, ◌==◌, List, [], ◌∷◌, ◌++◌, map, Option, Some, None, if◌then◌else◌, bytes_eq, option_map, option_and_then, is_some, unwrap_or}
+use Rattle.std.specs.Prelude.{ℕ, Bool, ◌&&◌, ◌||◌, List, [], ◌∷◌, map, Option, Some, None, if◌then◌else◌, bytes_eq, is_some, unwrap_or}
 use Rattle.std.specs.List.{list_any, list_all}
 use Rattle.std.specs.Option.{option_map_or}
 use Rattle.serde_json.specs.Data.{Data, null, Items, no_items, item, Members, no_members, member}
-use Rattle.serde_json.specs.Find.{get, as_array, as_number, as_object, as_str, as_u64}
-use Rattle.tk_types.specs.Lists.{is_empty}
+use Rattle.serde_json.specs.Find.{get, as_array, as_object, as_str}
 
 -- the value, where the test holds
 abbrev pub accepted : {X : Type 0} → (Data → Bool) → (Data → X) → Data → Option X

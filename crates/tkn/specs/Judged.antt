@@ -1,5 +1,5 @@
 -- The facts that an input of the first form says, or why it says none.
-use Rattle.std.specs.Prelude.{◌≡◌, ℕ, ◌≤◌, Bool, not, ◌&&◌, ◌||◌, if◌then◌else◌, List, [], ◌∷◌, length, map, Option, Some, None, Result, Ok, Err, is_some, unwrap_or, codes, slice_get, IsTrue}
+use Rattle.std.specs.Prelude.{◌≡◌, ℕ, ◌≤◌, Bool, if◌then◌else◌, List, [], length, map, Option, Some, None, Result, Ok, Err, is_some, unwrap_or, codes, slice_get, IsTrue}
 use Rattle.std.specs.List.{list_all}
 use Rattle.tk_types.specs.declared.fault.Fault.{Fault}
 use Rattle.tk_types.specs.declared.object.OutcomesChild.{OutcomesChild}

@@ -11,14 +11,13 @@ mod input;
 mod judged;
 mod output;
 mod plain;
-
-
+#[cfg(test)]
+mod tests;
 
 use plain::plain;
 use std::alloc::Global;
-use std::env;
-use std::io;
 use std::process::ExitCode;
+use std::{env, io};
 use tk_edge::{ReadSource, WriteSink};
 use tk_types::{List, Text};
 

@@ -11,5 +11,5 @@ returns c =
     let count = c.in_ok-labels.ensures.count in
     c.from_vec.ensures
     ∙ right_is_unique facts c.requires.well_formed.acyclic c.in_ok-labels.labels.items (labels_of facts)
-      (record { count = omega (arith, none, count); each = λ place lt. c.in_ok-labels.ensures.right place (omega (arith, none, lt)) })
-      (labels_of_is_right facts c.requires.well_formed.acyclic)
+    (record { count = omega (arith, none, count); each = λ place lt. c.in_ok-labels.ensures.right place (omega (arith, none, lt)) })
+    (labels_of_is_right facts c.requires.well_formed.acyclic)

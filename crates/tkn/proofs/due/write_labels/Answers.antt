@@ -1,6 +1,6 @@
 use Rattle.tkn.proofs.Lines.{text_more}
 use Rattle.tkn.proofs.due.write_labels.Goals as goal
-use Rattle.std.proofs.Common.{◌≡◌, ◌∙◌, ◌++◌, ap, sym, List, ℕ, string_bytes}
+use Rattle.std.proofs.Common.{◌∙◌, ◌++◌, ap, sym, List, ℕ, string_bytes}
 use Rattle.tk_types.specs.declared.task.PipelineTask.{PipelineTask}
 use Rattle.tkn.specs.Due.{label_line}
 

@@ -1,4 +1,4 @@
-use Rattle.std.proofs.Common.{◌≡◌, ℕ, List, Bool, map, drop}
+use Rattle.std.proofs.Common.{◌≡◌, ℕ, List, map, drop}
 use Rattle.std.specs.Prelude.{is_some}
 use Rattle.std.specs.List.{list_all}
 use Rattle.serde_json.specs.Find.{get}
