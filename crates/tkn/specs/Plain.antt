@@ -24,19 +24,21 @@ Told (Some left) bytes = bytes ≡ left
 abbrev pub IsDue : Option (List ℕ) → Due → Type 0
 IsDue left due = (bytes : List ℕ) × Told left bytes × (due ≡ due_of bytes)
 
--- all that is due is printed, and the status is the one that is due
-abbrev pub Prints : Option (List ℕ) → Option (List ℕ) → Option (List ℕ) → ℕ → Type 0
-Prints left old new status = (due : Due) × IsDue left due × (status ≡ due.status) × Appends old new due.text
+-- the end was given behind these bytes, or they are too many
+abbrev pub IsOver : Bool → List ℕ → Type 0
+IsOver ended bytes = (ended ≡ true) ⊎ (longest_input < length bytes)
 
--- a front of what is due is printed
+-- this is due for the bytes of the input, which is read to its end or too long
+abbrev pub IsReadDue : Option (List ℕ) → Bool → Due → Type 0
+IsReadDue left ended due = (bytes : List ℕ) × Told left bytes × IsOver ended bytes × (due ≡ due_of bytes)
+
+-- all that is due is printed, and the status is the one that is due
+abbrev pub Prints : Option (List ℕ) → Bool → Option (List ℕ) → Option (List ℕ) → ℕ → Type 0
+Prints left ended old new status = (due : Due) × IsReadDue left ended due × (status ≡ due.status) × Appends old new due.text
+
+-- a front of what is due is printed, where the input was read, and where memory ran out
+abbrev pub PrintsReadFront : Option (List ℕ) → Bool → Option (List ℕ) → Option (List ℕ) → Type 0
+PrintsReadFront left ended old new = (due : Due) × IsReadDue left ended due × AppendsFront old new due.text
+
 abbrev pub PrintsFront : Option (List ℕ) → Option (List ℕ) → Option (List ℕ) → Type 0
 PrintsFront left old new = (due : Due) × IsDue left due × AppendsFront old new due.text
-
--- the input is longer than the longest, where that is told
-abbrev pub IsLong : Option (List ℕ) → Type 0
-IsLong None = ⊤
-IsLong (Some left) = longest_input < length left
-
--- the input was read to its end, or is too long
-abbrev pub IsRead : Option (List ℕ) → Bool → Type 0
-IsRead left ended = (ended ≡ true) ⊎ IsLong left

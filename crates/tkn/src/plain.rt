@@ -1,6 +1,6 @@
 ghost use Rattle.std.specs.Prelude.{◌≡◌, ◌≤◌, ◌<◌, ◌↔◌, false, true, IfOk, IsErrOf, OnOk};
 ghost use Rattle.tk_edge.specs.Faults.{Rose};
-ghost use Rattle.tkn.specs.Plain.{is_answer, is_decide as is_decide_alone, IsDue, IsRead, Prints, PrintsFront};
+ghost use Rattle.tkn.specs.Plain.{is_answer, is_decide as is_decide_alone, IsReadDue, Prints, PrintsFront, PrintsReadFront};
 ghost use Rattle.tkn.specs.declared.plain.Halt.TheVariants.{Memory};
 
 use crate::decide::{decide, input_fault};
@@ -41,9 +41,8 @@ fn is_decide(words: &[Text]) -> bool
 
 /// What is due for an input, which is read to its end.
 fn due<R: Source>(alloc: Global, input: &mut R) -> Result<Due, Halt>
-    ensures due { IfOk result (IsDue (R.left input.old)) }
+    ensures due { IfOk result (IsReadDue (R.left input.old) (R.ended input.new)) }
     ensures answer { IfOk result (λ due. is_answer due.status ≡ true) }
-    ensures read { OnOk result (IsRead (R.left input.old) (R.ended input.new)) }
     ensures failed { IsErrOf result Halt.Failed → Rose (R.faults input.old) (R.faults input.new) }
 {
     match read_all(alloc, input) {
@@ -70,13 +69,11 @@ pub fn plain<R: Source, W: Sink>(
     ensures words { (result.status ≡ 2) ↔ (is_decide_alone words.now ≡ false) }
     ensures words_read_nothing { result.status ≡ 2 → input.new ≡ input.old }
     ensures words_write_nothing { result.status ≡ 2 → sink.new ≡ sink.old }
-    ensures answer { is_answer result.status ≡ true → Prints (R.left input.old) (W.written sink.old) (W.written sink.new) result.status }
-    ensures read { is_answer result.status ≡ true → IsRead (R.left input.old) (R.ended input.new) }
+    ensures answer { is_answer result.status ≡ true → Prints (R.left input.old) (R.ended input.new) (W.written sink.old) (W.written sink.new) result.status }
     ensures input_failed { result.status ≡ 4 → Rose (R.faults input.old) (R.faults input.new) }
     ensures input_failed_writes_nothing { result.status ≡ 4 → sink.new ≡ sink.old }
     ensures sink_failed { result.status ≡ 5 → Rose (W.faults sink.old) (W.faults sink.new) }
-    ensures sink_failed_front { result.status ≡ 5 → PrintsFront (R.left input.old) (W.written sink.old) (W.written sink.new) }
-    ensures sink_failed_read { result.status ≡ 5 → IsRead (R.left input.old) (R.ended input.new) }
+    ensures sink_failed_front { result.status ≡ 5 → PrintsReadFront (R.left input.old) (R.ended input.new) (W.written sink.old) (W.written sink.new) }
     ensures memory_front { result.status ≡ 6 → PrintsFront (R.left input.old) (W.written sink.old) (W.written sink.new) }
 {
     if !is_decide(words) {
