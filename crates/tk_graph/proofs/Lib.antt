@@ -7,6 +7,7 @@ pub mod LeftOver
 pub mod Outcome
 pub mod PlacesWhere
 pub mod Removing
+pub mod ResultTasks
 pub mod TaskParents
 pub mod UnknownFrom
 pub mod WalkSteps

@@ -1,13 +1,14 @@
 -- Which tasks a task waits for.
-use Rattle.std.specs.Prelude.{◌≡◌, ℕ, ◌<◌, Bool, List, [], length, bytes_eq, slice_get, slice_index, Contains}
+use Rattle.std.specs.Prelude.{◌≡◌, ℕ, ◌<◌, Bool, List, [], ◌++◌, length, bytes_eq, slice_get, slice_index, Contains}
 use Rattle.std.specs.List.{list_any}
 use Rattle.std.specs.Option.{option_map_or}
 use Rattle.tk_types.specs.declared.task.PipelineTask.{PipelineTask}
 use Rattle.tk_types.specs.Lists.{places_where}
+use Rattle.tk_graph.specs.Results.{guards_texts, matrix_texts, params_texts, result_tasks}
 
--- the names of a task's parents: it runs after them
+-- the names of a task's parents, in reading order: it refers to results of them or runs after them
 abbrev pub parent_names : PipelineTask → List (List ℕ)
-parent_names task = task.run_after
+parent_names task = result_tasks (params_texts task.params ++ matrix_texts task.matrix) ++ task.run_after ++ result_tasks (guards_texts task.when)
 
 -- the first task is a parent of the second, which names it
 abbrev pub is_parent : PipelineTask → PipelineTask → Bool

@@ -1,4 +1,4 @@
-ghost use Rattle.std.specs.Prelude.{◌≡◌, ◌<◌, ◌^◌, length, map, bytes_eq, IfOk};
+ghost use Rattle.std.specs.Prelude.{◌≡◌, ◌<◌, ◌^◌, ◌++◌, length, map, bytes_eq, IfOk, OnOk};
 ghost use Rattle.std.specs.List.{flat_map, list_any, range_with_len};
 ghost use Rattle.tk_types.specs.Lists.{places_where};
 ghost use Rattle.tk_types.specs.declared.task.PipelineTask.{PipelineTask};
@@ -6,14 +6,30 @@ ghost use Rattle.tk_graph.specs.Index.{places_of_name};
 ghost use Rattle.tk_graph.specs.Parents.{parent_names as names_of_parents, parents as parents_of};
 
 use crate::names::Names;
+use crate::references::{add_of_guards, add_of_matrix, add_of_params};
 use std::alloc::{AllocError, Global};
 use tk_types::{List, PipelineTask, Text, TryCopy};
 
-/// The names of a task's parents, in their order.
+/// Adds copies of some names.
+fn add_copies(alloc: Global, wanted: &[Text], names: &mut List<Text>) -> Result<(), AllocError>
+    ensures { OnOk result (names.new ≡ names.old ++ wanted.now) }
+{
+    for name in wanted {
+        names.push(name.copy(alloc)?)?;
+    }
+    Ok(())
+}
+
+/// The names of a task's parents, in reading order.
 pub(crate) fn parent_names(alloc: Global, task: &PipelineTask) -> Result<List<Text>, AllocError>
     ensures { IfOk result (λ names. names ≡ names_of_parents task.now) }
 {
-    task.run_after.copy(alloc)
+    let mut names = List::new(alloc);
+    add_of_params(alloc, task.params.as_slice(), &mut names)?;
+    add_of_matrix(alloc, &task.matrix, &mut names)?;
+    add_copies(alloc, task.run_after.as_slice(), &mut names)?;
+    add_of_guards(alloc, task.when.as_slice(), &mut names)?;
+    Ok(names)
 }
 
 /// Whether a name is among some.
@@ -41,9 +57,9 @@ fn places_named(
     Ok(places)
 }
 
-/// The places of a task's parents, ascending and without repeats: the tasks after which it runs (Tekton,
-/// Pipelines, Using the runAfter field). All tasks of a name are meant where it is named. The only error is want
-/// of memory.
+/// The places of a task's parents, ascending and without repeats: the tasks to whose results its parameters, its matrix
+/// and its `when` expressions refer, and those after which it runs (Tekton, Pipelines, Configuring the Task execution
+/// order). All tasks of a name are meant where it is named. The only error is want of memory.
 pub fn parents(alloc: Global, tasks: &[PipelineTask], task: u32) -> Result<List<u32>, AllocError>
     requires few { length tasks.now < 2 ^ 32 }
     requires exists { task < length tasks.now }

@@ -1,4 +1,5 @@
-//! The order of a pipeline's tasks. A task's parents are the tasks that it names. `order` gives ranks that rise
+//! The order of a pipeline's tasks. A task's parents are the tasks to whose results it
+//! refers and those after which it runs. `order` gives ranks that rise
 //! from each parent to its child, or tells the first name that no task has, or the names of a cycle. Ranks exist
 //! exactly where no task is its own ancestor.
 #![tactic(auto)]
@@ -8,6 +9,7 @@ mod below;
 pub mod laws;
 mod names;
 mod ordering;
+mod references;
 mod refusal;
 mod removal;
 mod unknown;

@@ -64,14 +64,25 @@ mod tests {
     use std::alloc::AllocError;
     use std::process::Abort;
     use std::test::Fail;
-    use tk_types::{TaskSource, Text};
+    use tk_types::{Matrix, Param, TaskSource, Text, Value, When};
 
+    fn param(alloc: Global, value: &str) -> Result<Param, AllocError> {
+        Ok(Param {
+            name: Text::from_str(alloc, "p")?,
+            value: Value::Str(Text::from_str(alloc, value)?),
+        })
+    }
+
+    /// A task by its name, the names after which it runs, and, as words that begin with `$`, its parameters' values.
     fn task(alloc: Global, words: &str) -> Result<PipelineTask, AllocError> {
         let mut name = Text::new(alloc);
         let mut run_after = List::new(alloc);
+        let mut params = List::new(alloc);
         for (i, word) in words.split(' ').enumerate() {
             if i == 0 {
                 name = Text::from_str(alloc, word)?;
+            } else if word.starts_with('$') {
+                params.push(param(alloc, word)?)?;
             } else {
                 run_after.push(Text::from_str(alloc, word)?)?;
             }
@@ -79,7 +90,7 @@ mod tests {
         Ok(PipelineTask {
             name,
             source: TaskSource::Named(Text::new(alloc)),
-            params: List::new(alloc),
+            params,
             matrix: None,
             run_after,
             when: List::new(alloc),
@@ -90,7 +101,7 @@ mod tests {
         })
     }
 
-    /// Tasks, each as its name and the names after which it runs.
+    /// Tasks, each as its name, the names after which it runs, and its parameters' values.
     fn tasks(alloc: Global, text: &str) -> Result<Vec<PipelineTask>, AllocError> {
         let mut tasks = Vec::new(alloc);
         for words in text.split(',') {
@@ -135,6 +146,15 @@ mod tests {
             ("a c b,b a,c a", "cycle a b"),
             ("a,b a y x,c w", "unknown 1 y"),
             ("a b,b a,c d", "unknown 2 d"),
+            ("a,b $(tasks.a.results.r)", "ranks"),
+            ("a $(tasks.b.results['r'])-,b a", "cycle a b"),
+            (
+                "a $(tasks.b.results.r[*]),b $(tasks.a.results.r)",
+                "cycle a b",
+            ),
+            ("a,b x $(tasks.y.results.r)", "unknown 1 y"),
+            ("a $(tasks.b.status)$(params.b)$(tasks.b,b a", "ranks"),
+            ("a $(tasks.b.results.r)$(tasks.b),b a", "ranks"),
         ] {
             let tasks = tasks(rt.alloc(), text)?;
             assert_eq!(rt;
@@ -161,6 +181,36 @@ mod tests {
         let ranks = ranks.list.as_slice();
         assert_eq!(rt; ranks.len(), 3);
         assert!(rt; ranks[0] < ranks[1] && ranks[2] < ranks[1]);
+        Ok(())
+    }
+
+    #[test]
+    fn parents_by_results(rt: HostRuntime) -> Result<(), Fail> {
+        let alloc = rt.alloc();
+        let mut last = task(alloc, "d")?;
+        let mut lists = List::new(alloc);
+        lists.push(param(alloc, "$(tasks.c.results.r[*])")?)?;
+        let mut entry = List::new(alloc);
+        entry.push(param(alloc, "-$(tasks.b.results.r)")?)?;
+        let mut include = List::new(alloc);
+        include.push(entry)?;
+        last.matrix = Some(Matrix {
+            params: lists,
+            include,
+        });
+        let mut values = List::new(alloc);
+        values.push(Text::from_str(alloc, "$(tasks.a.results.r)")?)?;
+        let guard = When {
+            input: Text::from_str(alloc, "$(tasks.d.results.r)")?,
+            is_member: true,
+            values,
+        };
+        last.when.push(guard)?;
+        let mut tasks = tasks(alloc, "a,b,c")?;
+        tasks.push(last)?;
+        assert!(rt; tasks.len() == 4);
+        let places = parents(alloc, tasks.as_slice(), 3)?;
+        assert_eq!(rt; places.as_slice(), [0, 1, 2, 3].as_slice());
         Ok(())
     }
 
