@@ -184,32 +184,48 @@ mod tests {
         Ok(())
     }
 
-    #[test]
-    fn parents_by_results(rt: HostRuntime) -> Result<(), Fail> {
-        let alloc = rt.alloc();
-        let mut last = task(alloc, "d")?;
-        let mut lists = List::new(alloc);
-        lists.push(param(alloc, "$(tasks.c.results.r[*])")?)?;
-        let mut entry = List::new(alloc);
-        entry.push(param(alloc, "-$(tasks.b.results.r)")?)?;
+    fn one_param(alloc: Global, value: &str) -> Result<List<Param>, AllocError> {
+        let mut params = List::new(alloc);
+        params.push(param(alloc, value)?)?;
+        Ok(params)
+    }
+
+    fn matrix(alloc: Global) -> Result<Matrix, AllocError> {
         let mut include = List::new(alloc);
-        include.push(entry)?;
-        last.matrix = Some(Matrix {
-            params: lists,
+        include.push(one_param(alloc, "-$(tasks.b.results.r)")?)?;
+        Ok(Matrix {
+            params: one_param(alloc, "$(tasks.c.results.r[*])")?,
             include,
-        });
+        })
+    }
+
+    fn guards(alloc: Global) -> Result<List<When>, AllocError> {
         let mut values = List::new(alloc);
         values.push(Text::from_str(alloc, "$(tasks.a.results.r)")?)?;
-        let guard = When {
+        let mut guards = List::new(alloc);
+        guards.push(When {
             input: Text::from_str(alloc, "$(tasks.d.results.r)")?,
             is_member: true,
             values,
-        };
-        last.when.push(guard)?;
-        let mut tasks = tasks(alloc, "a,b,c")?;
-        tasks.push(last)?;
-        assert!(rt; tasks.len() == 4);
-        let places = parents(alloc, tasks.as_slice(), 3)?;
+        })?;
+        Ok(guards)
+    }
+
+    /// The last task refers to results of each in turn, by its matrix and its guard.
+    fn by_results(alloc: Global) -> Result<Vec<PipelineTask>, AllocError> {
+        let mut tasks = tasks(alloc, "a,b,c,d")?;
+        if let Some(last) = tasks.last_mut() {
+            last.matrix = Some(matrix(alloc)?);
+            last.when = guards(alloc)?;
+        }
+        Ok(tasks)
+    }
+
+    #[test]
+    fn parents_by_results(rt: HostRuntime) -> Result<(), Fail> {
+        let tasks = by_results(rt.alloc())?;
+        assert_eq!(rt; tasks.len(), 4);
+        let places = parents(rt.alloc(), tasks.as_slice(), 3)?;
         assert_eq!(rt; places.as_slice(), [0, 1, 2, 3].as_slice());
         Ok(())
     }
