@@ -1,0 +1,4 @@
+pub mod AllRead
+pub mod AllThere
+pub mod Examples
+pub mod Texts

@@ -1,0 +1,18 @@
+//! Result files of an attempt become result values. A file is exactly the value that its definition gives by the
+//! result's type, and is refused exactly where it is none. The files of an attempt are gathered in the order of the
+//! declared results, and refused where they hold too many bytes together, or else at the first that is refused.
+#![tactic(auto)]
+
+mod files;
+mod gathering;
+mod json;
+mod read;
+mod refusal;
+#[cfg(test)]
+mod tests;
+mod text;
+
+pub use files::Fetched;
+pub use gathering::{MAX_RESULT_BYTES, gather};
+pub use read::read_result;
+pub use refusal::{GatherError, ReadError};
