@@ -1,34 +1,31 @@
 -- Result files by their bytes, and what an attempt emits.
-use Rattle.std.proofs.Common.{◌≡◌, ℕ, List, [], ◌∷◌, ◌++◌, refl, Some, None, Ok, Err}
-use Rattle.std.specs.Prelude.{codes, Option, Result}
+use Rattle.std.proofs.Common.{◌≡◌, ℕ, List, [], ◌∷◌, refl, Some, None, Ok, Err}
+use Rattle.std.specs.Prelude.{codes}
 use Rattle.std.specs.Str.{is_utf8, chars}
+use lib.Utf8.{encode}
 use Rattle.serde_json.proofs.OnLiterals.{serde_json_on_literals}
-use Rattle.tk_types.specs.declared.value.Pair.{Pair}
 use Rattle.tk_types.specs.declared.value.Param.{Param}
 use Rattle.tk_types.specs.declared.value.ParamType.{ParamType}
 use Rattle.tk_types.specs.declared.value.ParamType.TheVariants.{Str as string, Arr as array, Obj as object}
 use Rattle.tk_types.specs.declared.value.ResultSpec.{ResultSpec}
-use Rattle.tk_types.specs.declared.value.Value.{Value}
 use Rattle.tk_types.specs.declared.value.Value.TheVariants.{Str, Arr, Obj}
 use Rattle.tk_results.specs.declared.files.Fetched.{Fetched}
-use Rattle.tk_results.specs.declared.refusal.ReadError.{ReadError}
 use Rattle.tk_results.specs.declared.refusal.ReadError.TheVariants.{BadText, BadList, BadObject}
-use Rattle.tk_results.specs.declared.refusal.GatherError.{GatherError}
-use Rattle.tk_results.specs.declared.refusal.GatherError.TheVariants.{TooMany, Bad}
+use Rattle.tk_results.specs.declared.refusal.GatherError.TheVariants.{Bad}
 use Rattle.tk_results.specs.Gathered.{gathered}
 use Rattle.tk_results.specs.Read.{result_of}
 
 newline_kept : result_of string (codes "a\n") ≡ Ok (Str (codes "a\n"))
-unfolding is_utf8 chars
+unfolding is_utf8 chars encode
 newline_kept = refl
 
 -- no byte of UTF-8 is 255
 no_text : result_of string (97 ∷ 255 ∷ []) ≡ Err BadText
-unfolding is_utf8 chars
+unfolding is_utf8 chars encode
 no_text = refl
 
 empty_text : result_of string [] ≡ Ok (Str [])
-unfolding is_utf8 chars
+unfolding is_utf8 chars encode
 empty_text = refl
 
 one_element : result_of array (codes "[\"a\"]\n") ≡ Ok (Arr (codes "a" ∷ []))
@@ -73,18 +70,18 @@ text name bytes = record { name = name; value = Str bytes }
 -- in the order of the declarations; a file of an undeclared name is ignored, and of two files of one name the second
 in_order : gathered (declared (codes "a") string ∷ declared (codes "b") string ∷ []) (file (codes "x") (codes "!") ∷ file (codes "b") (codes "2") ∷ file (codes "a") (codes "1") ∷ file (codes "a") (codes "3") ∷ [])
     ≡ Ok (text (codes "a") (codes "1") ∷ text (codes "b") (codes "2") ∷ [])
-unfolding is_utf8 chars
+unfolding is_utf8 chars encode
 in_order = refl
 
 missing_files : gathered (declared (codes "a") string ∷ declared (codes "b") string ∷ declared (codes "c") string ∷ []) (missing (codes "a") ∷ file (codes "c") [] ∷ []) ≡ Ok (text (codes "c") [] ∷ [])
-unfolding is_utf8 chars
+unfolding is_utf8 chars encode
 missing_files = refl
 
 first_refused : gathered (declared (codes "a") string ∷ declared (codes "b") string ∷ declared (codes "c") string ∷ []) (file (codes "c") (255 ∷ []) ∷ file (codes "b") (255 ∷ []) ∷ file (codes "a") [] ∷ []) ≡ Err (Bad (codes "b"))
-unfolding is_utf8 chars
+unfolding is_utf8 chars encode
 first_refused = refl
 
 -- a name that is declared twice gives its file twice
 declared_twice : gathered (declared (codes "a") string ∷ declared (codes "a") string ∷ []) (file (codes "a") (codes "1") ∷ []) ≡ Ok (text (codes "a") (codes "1") ∷ text (codes "a") (codes "1") ∷ [])
-unfolding is_utf8 chars
+unfolding is_utf8 chars encode
 declared_twice = refl

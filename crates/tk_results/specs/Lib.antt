@@ -1,2 +1,3 @@
 pub mod Gathered
 pub mod Read
+pub mod Told

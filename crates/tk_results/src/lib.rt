@@ -5,9 +5,10 @@
 
 mod files;
 mod gathering;
-mod json;
+pub mod laws;
 mod read;
 mod refusal;
+mod strings;
 #[cfg(test)]
 mod tests;
 mod text;

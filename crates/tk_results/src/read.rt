@@ -1,8 +1,8 @@
 ghost use Rattle.std.specs.Prelude.{◌≡◌, IfErr, IfOk, Ok, option_and_then};
 ghost use Rattle.tk_results.specs.Read.{IsReadRefusal, fault_of, json_of as json_due, list_of as list_due, object_of as object_due, result_of, text_of as text_due, value_of};
 
-use crate::json::{json_of, list_of, object_of};
 use crate::refusal::ReadError;
+use crate::strings::{json_of, list_of, object_of};
 use crate::text::text_of;
 use std::alloc::{AllocError, Global};
 use tk_types::{List, Pair, ParamType, Text, Value};
