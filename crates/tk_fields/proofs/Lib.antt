@@ -1,0 +1,4 @@
+pub mod Examples
+pub mod FirstBad
+pub mod ItemsOf
+pub mod KeysOf

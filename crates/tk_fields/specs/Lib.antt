@@ -1,0 +1,5 @@
+pub mod Check
+pub mod Get
+pub mod Keys
+pub mod Location
+pub mod Shape

@@ -1,0 +1,42 @@
+//! Reading the fields of JSON objects: which keys an object may have, what each field must be, and what is wrong
+//! first, told as a fault at its place.
+//!
+//! A form of value is a type with a `Reader`: a check, which finds what is wrong first with a value, and what a value
+//! says. `read` gives exactly that, so `Each<R>`, `required::<R>` and the like are written and proved once. The form
+//! of an object's fields is a few lines in a crate above:
+//!
+//! ```text
+//! let place = place_at(alloc, location)?;
+//! check_object(alloc, value, &field_table!(Used "input" "values", Refused "cel"), &place)?;
+//! let guard = Guard {
+//!     input: required::<AnyText>(alloc, value, &place, "input")?,
+//!     values: or_empty::<Each<AnyText>>(alloc, value, &place, "values")?,
+//! };
+//! ```
+//!
+//! and behind the last field the rules between fields, as `just_one`. A place is made where an object or an array is
+//! entered, and else only where a fault is told. An object of more than about five fields is read in parts, its keys
+//! and some fields at a time, each by a function of its own whose check is an `unfoldable` definition; the check of
+//! the whole is `in_order` of them.
+#![tactic(auto)]
+
+pub mod laws;
+mod list;
+mod location;
+mod members;
+mod number;
+mod object;
+mod reader;
+mod table;
+#[cfg(test)]
+mod tests;
+mod text;
+
+pub use list::{Each, SomeOf, elements_of};
+pub use location::{Location, place_at, refusal};
+pub use members::{EachMember, Entry, TextEntry};
+pub use number::{Below8, Below32, NumberRule, NumberThat, Truth};
+pub use object::{check_object, just_one, object_at};
+pub use reader::{OrEmpty, Reader, optional, or_empty, required};
+pub use table::{FieldTable, Key, Role, check_fields};
+pub use text::{AnyText, OneOf, TextRule, TextThat, Words};

@@ -1,0 +1,82 @@
+ghost use Rattle.std.specs.Prelude.{◌≡◌, false, true, map, MatchOption};
+ghost use Rattle.serde_json.specs.View.{view};
+ghost use Rattle.tk_types.specs.Rejected.{Reads};
+ghost use Rattle.tk_types.specs.First.{first_in};
+ghost use Rattle.tk_fields.specs.Check.{each, some_of};
+ghost use Rattle.tk_fields.specs.Get.{elements, is_array, list_of};
+
+use crate::location::{Location, place_at, refusal};
+use crate::reader::{OrEmpty, Reader};
+use serde_json::Value;
+use std::alloc::Global;
+use std::marker::PhantomData;
+use tk_types::{List, Place, Rejected};
+
+/// The elements of an array, and None for any other value.
+pub fn elements_of(value: &Value) -> Option<&[Value]>
+    ensures { MatchOption result (is_array (view value.now) ≡ false) (λ items. (is_array (view value.now) ≡ true) × (elements (view value.now) ≡ map view items.now)) }
+{
+    match value.as_array() {
+        Some(items) => Some(items.as_slice()),
+        None => None,
+    }
+}
+
+/// What the elements say, each at its index.
+fn read_elements<R: Reader>(
+    alloc: Global,
+    items: &[Value],
+    place: &Place,
+) -> Result<List<R::Out>, Rejected>
+    ensures { Reads (first_in R.check place.now (map view items.now)) (map R.value_of (map view items.now)) result }
+{
+    let mut values = List::new(alloc);
+    for item in items {
+        let index = values.len() as u64;
+        values.push(R::read(alloc, item, Location::Element(place, index))?)?;
+    }
+    Ok(values)
+}
+
+/// An array of any length.
+pub struct Each<R>(PhantomData<R>);
+
+impl<R: Reader> Reader for Each<R> {
+    type Out = List<R::Out>;
+
+    ghost check = { each R.check };
+
+    ghost value_of = { list_of R.value_of };
+
+    fn read(alloc: Global, value: &Value, location: Location) -> Result<List<R::Out>, Rejected> {
+        match elements_of(value) {
+            Some(items) => read_elements::<R>(alloc, items, &place_at(alloc, location)?),
+            None => Err(refusal(alloc, 2, location)),
+        }
+    }
+}
+
+impl<R: Reader> OrEmpty for Each<R> {
+    fn empty(alloc: Global) -> List<R::Out> {
+        List::new(alloc)
+    }
+}
+
+/// An array that isn't empty; an empty one is `MissingField` at it.
+pub struct SomeOf<R>(PhantomData<R>);
+
+impl<R: Reader> Reader for SomeOf<R> {
+    type Out = List<R::Out>;
+
+    ghost check = { some_of R.check };
+
+    ghost value_of = { list_of R.value_of };
+
+    fn read(alloc: Global, value: &Value, location: Location) -> Result<List<R::Out>, Rejected> {
+        match elements_of(value) {
+            Some([]) => Err(refusal(alloc, 5, location)),
+            Some(items) => read_elements::<R>(alloc, items, &place_at(alloc, location)?),
+            None => Err(refusal(alloc, 2, location)),
+        }
+    }
+}
