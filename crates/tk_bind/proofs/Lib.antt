@@ -1,0 +1,12 @@
+pub mod AllOk
+pub mod Examples
+pub mod FirstFound
+pub mod Gathering
+pub mod GroupFacts
+pub mod KeyFacts
+pub mod Putting
+pub mod Readings
+pub mod StepFacts
+pub mod TextFault
+pub mod WholeElement
+pub mod WithPair

@@ -1,0 +1,11 @@
+pub mod Bind
+pub mod Check
+pub mod Completing
+pub mod Fits
+pub mod Found
+pub mod Params
+pub mod Readings
+pub mod Refusal
+pub mod Scope
+pub mod Selector
+pub mod Substitute

@@ -1,0 +1,18 @@
+use tk_types::{List, Pair, Param, Text, Value};
+
+/// An available result of a task.
+#[derive(Drop)]
+pub struct Given {
+    pub task: Text,
+    pub name: Text,
+    pub value: Value,
+}
+
+/// The values that references take. Of parameters and results of one name the first counts. A word is a context, status,
+/// path or workspace variable, under its parts joined with `.`, the head in front, as `context.pipelineRun.name`.
+#[derive(Drop)]
+pub struct Env {
+    pub params: List<Param>,
+    pub results: List<Given>,
+    pub words: List<Pair>,
+}

@@ -1,0 +1,103 @@
+ghost use Rattle.std.specs.Prelude.{◌≡◌, ℕ, List, IfOk, bytes_eq, find, option_map, option_copied};
+ghost use Rattle.std.specs.HashMap.{get_by};
+
+use std::alloc::{AllocError, Global};
+use std::collections::HashMap;
+use std::marker::Model;
+use tk_types::{Pair, Param, ParamSpec, Text};
+
+/// A thing with a name.
+pub trait Named {
+    ghost use Rattle.std.specs.Prelude.{List, ℕ};
+
+    ghost name: { Self → List ℕ };
+
+    /// Its name.
+    fn name(&self) -> &str
+        ensures { result.now ≡ name self.now };
+}
+
+impl Named for Param {
+    ghost name = { λ p. p.name };
+
+    fn name(&self) -> &str {
+        self.name.as_str()
+    }
+}
+
+impl Named for ParamSpec {
+    ghost name = { λ p. p.name };
+
+    fn name(&self) -> &str {
+        self.name.as_str()
+    }
+}
+
+impl Named for Pair {
+    ghost name = { λ p. p.key };
+
+    fn name(&self) -> &str {
+        self.key.as_str()
+    }
+}
+
+impl Named for Text {
+    ghost name = { λ t. t };
+
+    fn name(&self) -> &str {
+        self.as_str()
+    }
+}
+
+/// Things that are found by their names; of equal names the first counts. A contract sees the things.
+#[derive(Drop)]
+pub struct FirstNamed<'a, T: Named> {
+    items: &'a [T],
+    found: HashMap<&'a str, &'a T>,
+}
+
+impl<'a, T: Named> Model for FirstNamed<'a, T> {
+    ghost use Rattle.std.specs.Prelude.{◌≡◌, List as Items, ℕ, bytes_eq, find, option_map};
+    ghost use Rattle.std.specs.HashMap.{get_by};
+
+    ghost Value = { Items T };
+
+    ghost view = { λ index. index.items.now };
+
+    ghost invariant = { λ index. (name : Items ℕ)
+        → option_map (λ item. item.now) (get_by (λ k. bytes_eq name k.now) index.found) ≡ find (λ item. bytes_eq (T.name item) name) index.items.now };
+}
+
+impl<'a, T: Named> FirstNamed<'a, T> {
+    /// An index of these things.
+    pub fn new(alloc: Global, items: &'a [T]) -> Result<Self, AllocError>
+        ensures { IfOk result (λ index. index ≡ items.now) }
+    {
+        Ok(FirstNamed {
+            items,
+            found: first_found(alloc, items)?,
+        })
+    }
+
+    /// The first thing of a name.
+    pub fn get(&self, name: &str) -> Option<&'a T>
+        ensures { option_copied result ≡ find (λ item. bytes_eq (T.name item) name.now) self.now }
+    {
+        self.found.get(name).copied()
+    }
+}
+
+/// The first thing of each name.
+fn first_found<'a, T: Named>(
+    alloc: Global,
+    items: &'a [T],
+) -> Result<HashMap<&'a str, &'a T>, AllocError>
+    ensures { IfOk result (λ found. (name : List ℕ)
+        → option_map (λ item. item.now) (get_by (λ k. bytes_eq name k.now) found) ≡ find (λ item. bytes_eq (T.name item) name) items.now) }
+{
+    let mut found: HashMap<&'a str, &'a T> = HashMap::new(alloc);
+    for item in items {
+        found.entry(item.name())?.or_insert(item);
+    }
+    Ok(found)
+}

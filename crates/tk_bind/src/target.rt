@@ -1,0 +1,77 @@
+ghost use Rattle.std.specs.Prelude.{◌≡◌, ◌||◌, None, option_map, bytes_eq, codes, if◌then◌else◌};
+ghost use Rattle.tk_vars.specs.Target.{param_target, result_target, target_of};
+ghost use Rattle.tk_bind.specs.Found.{meant};
+
+use tk_vars::{Part, Word};
+
+/// What a reference refers to, by its parts.
+#[derive(Clone, Copy)]
+pub(crate) enum Target<'a> {
+    /// A parameter, and the selector.
+    Param {
+        name: &'a Part,
+        selector: &'a [Part],
+    },
+    /// A task, a result of it, and the selector.
+    Result {
+        task: &'a Word,
+        name: &'a Part,
+        selector: &'a [Part],
+    },
+    /// A context, status, path or workspace variable.
+    Word {
+        parts: &'a [Part],
+    },
+}
+
+fn param_target(parts: &[Part]) -> Option<Target<'_>>
+    ensures { option_map meant result ≡ param_target parts.now }
+{
+    match parts {
+        [name, selector @ ..] => Some(Target::Param { name, selector }),
+        [] => None,
+    }
+}
+
+fn result_target(parts: &[Part]) -> Option<Target<'_>>
+    ensures { option_map meant result ≡ result_target parts.now }
+{
+    match parts {
+        [Part::Name(task), Part::Name(field), name, selector @ ..] => {
+            if field.as_str() == "results" {
+                Some(Target::Result {
+                    task,
+                    name,
+                    selector,
+                })
+            } else {
+                None
+            }
+        }
+        _ => None,
+    }
+}
+
+fn headed<'a>(head: &str, parts: &'a [Part]) -> Option<Target<'a>>
+    ensures { option_map meant result ≡ (if bytes_eq head.now (codes "params") then param_target parts.now else (if bytes_eq head.now (codes "tasks") || bytes_eq head.now (codes "finally") then result_target parts.now else None)) }
+{
+    if head == "params" {
+        param_target(parts)
+    } else if head == "tasks" || head == "finally" {
+        result_target(parts)
+    } else {
+        None
+    }
+}
+
+/// What a reference with these parts refers to.
+pub(crate) fn target_of(parts: &[Part]) -> Target<'_>
+    ensures { meant result ≡ target_of parts.now }
+{
+    match parts {
+        [Part::Name(head), rest @ ..] => {
+            headed(head.as_str(), rest).unwrap_or(Target::Word { parts })
+        }
+        _ => Target::Word { parts },
+    }
+}
