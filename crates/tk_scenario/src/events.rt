@@ -1,0 +1,73 @@
+ghost use Rattle.std.specs.Prelude.{map, codes};
+ghost use Rattle.serde_json.specs.View.{view};
+ghost use Rattle.tk_types.specs.Rejected.{Reads};
+ghost use Rattle.tk_fields.specs.Get.{at, elements};
+ghost use Rattle.tk_fields.specs.Location.{place_of};
+ghost use Rattle.tk_fields.specs.Shape.{field_finding, optional};
+ghost use Rattle.tk_scenario.specs.Scenario.{event as event_check, event_told, events as events_check, events_from, first_bad_event};
+
+use crate::actors::Counts;
+use crate::event::{event, reading_after};
+use serde_json::Value;
+use std::alloc::Global;
+use tk_fields::{Location, elements_of, refusal};
+use tk_types::{Event, List, Place, Rejected};
+
+/// The event that a text tells while the clock has a reading; another text is `BadChoice`.
+#[tactic(auto, unfolding(crate::specs::Scenario::event, crate::specs::Scenario::event_told))]
+fn read_event(
+    alloc: Global,
+    counts: Counts,
+    reading: u64,
+    value: &Value,
+    location: Location,
+) -> Result<Event, Rejected>
+    ensures { Reads (event_check counts reading (place_of location.entry) (view value.now)) (event_told counts reading (view value.now)) result }
+{
+    let Some(text) = value.as_str() else {
+        return Err(refusal(alloc, 2, location));
+    };
+    match event(alloc, counts, reading, text)? {
+        Some(event) => Ok(event),
+        None => Err(refusal(alloc, 11, location)),
+    }
+}
+
+/// The events of some texts, each at the reading that the clock has after those before.
+fn read_texts(
+    alloc: Global,
+    counts: Counts,
+    items: &[Value],
+    place: &Place,
+) -> Result<List<Event>, Rejected>
+    ensures { Reads (first_bad_event counts place.now 0 0 (map view items.now)) (events_from counts 0 (map view items.now)) result }
+{
+    let mut events = List::new(alloc);
+    let mut reading = 0;
+    for item in items {
+        let index = events.len() as u64;
+        let event = read_event(alloc, counts, reading, item, Location::Element(place, index))?;
+        reading = reading_after(reading, &event);
+        events.push(event)?;
+    }
+    Ok(events)
+}
+
+/// The events of a scenario, none where they aren't written.
+#[tactic(auto, unfolding(tk_fields::specs::Shape::field_finding, crate::specs::Scenario::events))]
+pub(crate) fn read_events(
+    alloc: Global,
+    counts: Counts,
+    spec: &Value,
+    place: &Place,
+) -> Result<List<Event>, Rejected>
+    ensures { Reads (field_finding place.now (view spec.now) (optional (codes "events") (events_check counts))) (events_from counts 0 (elements (at (codes "events") (view spec.now)))) result }
+{
+    let Some(value) = spec.get("events") else {
+        return Ok(List::new(alloc));
+    };
+    match elements_of(value) {
+        Some(items) => read_texts(alloc, counts, items, &place.key(alloc, "events")?),
+        None => Err(refusal(alloc, 2, Location::Member(place, "events"))),
+    }
+}
