@@ -1,7 +1,6 @@
 -- The attempts of the outcomes so far, and a step over the outcomes.
-use Rattle.std.proofs.Common.{◌≡◌, ℕ, suc, ◌+◌, ◌<◌, List, [], ◌∷◌, ◌++◌, map, take, drop, length, get_or, Bool, true, false, cond, Some, None, refl, sym, ◌∙◌, ap, arith, bytes_eq, not, Bor, Ordering, add-one}
+use Rattle.std.proofs.Common.{◌≡◌, ℕ, ◌+◌, ◌<◌, List, [], ◌∷◌, ◌++◌, map, take, drop, length, get_or, Bool, true, false, cond, Some, None, refl, sym, ◌∙◌, ap, arith, bytes_eq, not, Bor, Ordering, add-one}
 use Rattle.std.specs.Prelude.{◌&&◌, ◌||◌, ◌==◌, codes}
-use Rattle.std.specs.BTreeMap.{is_at}
 use Rattle.std.specs.BTreeSet.{BTreeSet, Updates, contains, contains_by}
 use Rattle.std.specs.Cmp.{tied_then, unsigned_tied}
 use Rattle.std.specs.Cmp.Lexicographic.{slice_cmp}
@@ -17,7 +16,6 @@ use Rattle.serde_json.specs.Data.{Data}
 use Rattle.serde_json.specs.declared.value.Value.{Value}
 use Rattle.serde_json.specs.View.{view}
 use Rattle.tk_types.specs.Fault.{bad_choice}
-use Rattle.tk_types.specs.First.{Finding}
 use Rattle.tk_types.specs.Place.{Place, ◌#◌}
 use Rattle.tk_fields.specs.Get.{number_at, text_at}
 use Rattle.tk_scenario.specs.Scenario.{first_bad_outcome, is_same_attempt, new_outcome, outcome}
@@ -59,9 +57,9 @@ or-false false = refl
 pub among-more : (old new : BTreeSet Key) (key : Key) (before : List Data) (d : Data) → key.0.now ≡ text_at (codes "taskRun") d → key.1 ≡ number_at (codes "attempt") d → Updates order old new key true → ((task_run : List ℕ) (attempt : ℕ) → contains_by (against task_run attempt) old ≡ list_any (is_of task_run attempt) before) → (task_run : List ℕ) (attempt : ℕ) → contains_by (against task_run attempt) new ≡ list_any (is_of task_run attempt) (before ++ d ∷ [])
 among-more old new key before d name number updates among task_run attempt =
     let step : contains_by (against task_run attempt) new ≡ cond (is_eq (order key (key_of task_run attempt))) true (contains_by (against task_run attempt) old)
-        = updates.0 (key_of task_run attempt) in
+    = updates.0 (key_of task_run attempt) in
     let here : is_eq (order key (key_of task_run attempt)) ≡ is_of task_run attempt d
-        = same_key key.0.now task_run key.1 attempt ∙ (turned key.0.now task_run key.1 attempt ∙ rw (name, number) refl) in
+    = same_key key.0.now task_run key.1 attempt ∙ (turned key.0.now task_run key.1 attempt ∙ rw (name, number) refl) in
     step ∙ (rw (here, among task_run attempt) (either (is_of task_run attempt d) (list_any (is_of task_run attempt) before))
     ∙ sym (list_any-append (is_of task_run attempt) before (d ∷ []) ∙ ap (λ b. list_any (is_of task_run attempt) before || b) (or-false (is_of task_run attempt d))))
 

@@ -1,5 +1,5 @@
 -- What `parse` reads of a numeral.
-use Rattle.std.proofs.Common.{◌≡◌, ℕ, ◌<◌, ◌^◌, Bool, true, false, List, [], ◌∷◌, length, Option, Some, None, Result, Ok, Err, refl, arith, cond, nat_lt, not, ◌&&◌, rules}
+use Rattle.std.proofs.Common.{◌≡◌, ℕ, ◌<◌, ◌^◌, Bool, true, List, [], ◌∷◌, length, Option, Some, None, Result, Ok, Err, refl, arith, nat_lt, ◌&&◌, rules}
 use Rattle.std.specs.Prelude.{if◌then◌else◌}
 use Rattle.std.specs.List.{list_all}
 use Rattle.std.specs.Char.{is_ascii_digit}
@@ -7,8 +7,7 @@ use Rattle.std.specs.Result.{OkIff, result_ok}
 use Rattle.std.specs.Str.Parse.{digits_value, ParsesUnsigned}
 use Rattle.std.proofs.lemmas.Grind.{common_steps}
 use Rattle.std.proofs.lemmas.Str.Parse.{IsNumeralModel, numerals_by_value, parse_digits}
-use Rattle.tk_types.specs.Lists.{is_empty}
-use Rattle.tk_scenario.specs.Words.{is_numeral, has_leading_zero, number_told}
+use Rattle.tk_scenario.specs.Words.{is_numeral, number_told}
 
 digits : IsNumeralModel (λ ds. list_all is_ascii_digit ds ≡ true) (digits_value 10)
 digits = numerals_by_value _ (search rules)
@@ -30,5 +29,5 @@ told_if told word o h = rw h refl
 pub parsed-number_told : {E : Type 0} (word : List ℕ) (r : Result ℕ E) → ParsesUnsigned 64 10 word r → is_numeral word ≡ true → result_ok r ≡ number_told word
 parsed-number_told word r h is =
     let below : result_ok r ≡ (if nat_lt (digits_value 10 word) (2 ^ 64) then Some (digits_value 10 word) else None)
-        = read_below r (digits_value 10 word) (2 ^ 64) (length word) (some_of word is) (parse_digits digits 64 word r h (all_of word is)) in
+    = read_below r (digits_value 10 word) (2 ^ 64) (length word) (some_of word is) (parse_digits digits 64 word r h (all_of word is)) in
     rw is below

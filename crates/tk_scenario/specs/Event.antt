@@ -1,9 +1,7 @@
 -- The texts of events.
 use Rattle.std.specs.Prelude.{ℕ, Bool, ◌&&◌, nat_le, if◌then◌else◌, List, [], ◌∷◌, Option, Some, None, codes, bytes_eq}
-use Rattle.tk_types.specs.declared.object.Asked.{Asked}
 use Rattle.tk_types.specs.declared.scenario.Kind.{Kind}
 use Rattle.tk_types.specs.declared.scenario.Viewer.{Viewer}
-use Rattle.tk_types.specs.declared.scenario.Taker.{Taker}
 use Rattle.tk_types.specs.declared.scenario.Event.{Event}
 use Rattle.tk_types.specs.declared.scenario.Event.TheVariants.{Deliver, DeliverAll, Relist, Turn, Restart, Ask, Clock, Round}
 use Rattle.tk_types.specs.First.{first_of}

@@ -1,5 +1,5 @@
 -- Scenarios.
-use Rattle.std.specs.Prelude.{None, ℕ, suc, ◌^◌, Bool, ◌&&◌, ◌==◌, nat_le, List, [], ◌∷◌, ◌++◌, codes, bytes_eq, is_some, unwrap_or}
+use Rattle.std.specs.Prelude.{None, ℕ, suc, ◌^◌, Bool, ◌&&◌, ◌==◌, nat_le, List, [], ◌∷◌, ◌++◌, map, codes, bytes_eq, is_some, unwrap_or}
 use Rattle.std.specs.List.{list_any}
 use Rattle.std.specs.Option.{option_or}
 use Rattle.serde_json.specs.Data.{Data}
@@ -10,9 +10,10 @@ use Rattle.tk_types.specs.declared.scenario.Scripted.{Scripted}
 use Rattle.tk_types.specs.Fault.{bad_choice}
 use Rattle.tk_types.specs.First.{Finding, first_of, refused_if}
 use Rattle.tk_types.specs.Place.{Place, ◌#◌}
-use Rattle.tk_fields.specs.Check.{Check, no_array, text, text_that, number_below, number_that, each, each_member}
+use Rattle.tk_fields.specs.Check.{Check, in_order, no_array, text, text_that, number_below, number_that, each, each_member}
 use Rattle.tk_fields.specs.Get.{at, elements, field, list_at, number_at, number_of, pairs_of, text_at, text_of}
-use Rattle.tk_fields.specs.Shape.{required, optional, fields, object_of}
+use Rattle.tk_fields.specs.declared.table.Role.TheVariants.{Used}
+use Rattle.tk_fields.specs.Shape.{required, optional, fields, object_by, object_of, used_fields, with_role}
 use Rattle.tk_scenario.specs.declared.actors.Counts.{Counts}
 use Rattle.tk_scenario.specs.Event.{event_of, reading_after}
 
@@ -82,24 +83,39 @@ abbrev pub events_from : Counts → ℕ → List Data → List Event
 events_from counts reading [] = []
 events_from counts reading (d ∷ ds) = event_told counts reading d ∷ events_from counts (reading_after reading (event_told counts reading d)) ds
 
--- a scenario: how many actors there are, the outcomes of attempts, and the events in order
+-- The parts of a scenario.
+
+-- the keys that it may have
+unfoldable pub keys : Check
+keys = object_by (map (with_role Used) (codes "controllers" ∷ codes "kubelets" ∷ codes "outcomes" ∷ codes "events" ∷ []))
+
+-- how many actors there are
+unfoldable pub counts : Check
+counts = used_fields (optional (codes "controllers") actors ∷ optional (codes "kubelets") actors ∷ [])
+
+-- the outcomes of attempts, none where they aren't written
+unfoldable pub written_outcomes : Check
+written_outcomes = used_fields (optional (codes "outcomes") outcomes ∷ [])
+
+unfoldable pub outcomes_of : Data → List Scripted
+outcomes_of d = list_at outcome_of (codes "outcomes") d
+
+-- the events, none where they aren't written
+unfoldable pub written_events : Counts → Check
+written_events counts = used_fields (optional (codes "events") (events counts) ∷ [])
+
+unfoldable pub events_of : Counts → Data → List Event
+events_of counts d = events_from counts 0 (elements (at (codes "events") d))
+
+-- a scenario: the keys first, and then the fields in this order, each whole before the next
 abbrev pub scenario : Check
-scenario place d =
-    object_of
-    (fields
-    (optional (codes "controllers") actors
-    ∷ optional (codes "kubelets") actors
-    ∷ optional (codes "outcomes") outcomes
-    ∷ optional (codes "events") (events (counts_of d))
-    ∷ []))
-    place
-    d
+scenario place d = in_order (keys ∷ counts ∷ written_outcomes ∷ written_events (counts_of d) ∷ []) place d
 
 abbrev pub scenario_of : Data → Scenario
 scenario_of d =
     record {
       controllers = (counts_of d).controllers;
       kubelets = (counts_of d).kubelets;
-      outcomes = list_at outcome_of (codes "outcomes") d;
-      events = events_from (counts_of d) 0 (elements (at (codes "events") d));
+      outcomes = outcomes_of d;
+      events = events_of (counts_of d) d;
     }

@@ -32,14 +32,7 @@ fn relist(counts: Counts, who: &str, i: &str, of_kind: &str, p: &str) -> Option<
 }
 
 /// The event of five words.
-fn of_five(
-    counts: Counts,
-    verb: &str,
-    who: &str,
-    i: &str,
-    of_kind: &str,
-    n: &str,
-) -> Option<Event>
+fn of_five(counts: Counts, verb: &str, who: &str, i: &str, of_kind: &str, n: &str) -> Option<Event>
     ensures { let words = verb.now ∷ who.now ∷ i.now ∷ of_kind.now ∷ n.now ∷ [] in result ≡ first_of (deliver_of counts words ∷ relist_of counts words ∷ []) }
 {
     match verb {

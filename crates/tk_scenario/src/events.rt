@@ -1,10 +1,8 @@
-ghost use Rattle.std.specs.Prelude.{map, codes};
+ghost use Rattle.std.specs.Prelude.{map};
 ghost use Rattle.serde_json.specs.View.{view};
 ghost use Rattle.tk_types.specs.Rejected.{Reads};
-ghost use Rattle.tk_fields.specs.Get.{at, elements};
 ghost use Rattle.tk_fields.specs.Location.{place_of};
-ghost use Rattle.tk_fields.specs.Shape.{field_finding, optional};
-ghost use Rattle.tk_scenario.specs.Scenario.{event as event_check, event_told, events as events_check, events_from, first_bad_event};
+ghost use Rattle.tk_scenario.specs.Scenario.{event as event_check, event_told, events_from, events_of, first_bad_event, written_events};
 
 use crate::actors::Counts;
 use crate::event::{event, reading_after};
@@ -46,7 +44,13 @@ fn read_texts(
     let mut reading = 0;
     for item in items {
         let index = events.len() as u64;
-        let event = read_event(alloc, counts, reading, item, Location::Element(place, index))?;
+        let event = read_event(
+            alloc,
+            counts,
+            reading,
+            item,
+            Location::Element(place, index),
+        )?;
         reading = reading_after(reading, &event);
         events.push(event)?;
     }
@@ -54,14 +58,14 @@ fn read_texts(
 }
 
 /// The events of a scenario, none where they aren't written.
-#[tactic(auto, unfolding(tk_fields::specs::Shape::field_finding, crate::specs::Scenario::events))]
+#[tactic(auto, unfolding(tk_fields::specs::Shape::field_finding, crate::specs::Scenario::events, crate::specs::Scenario::written_events, crate::specs::Scenario::events_of))]
 pub(crate) fn read_events(
     alloc: Global,
     counts: Counts,
     spec: &Value,
     place: &Place,
 ) -> Result<List<Event>, Rejected>
-    ensures { Reads (field_finding place.now (view spec.now) (optional (codes "events") (events_check counts))) (events_from counts 0 (elements (at (codes "events") (view spec.now)))) result }
+    ensures { Reads (written_events counts place.now (view spec.now)) (events_of counts (view spec.now)) result }
 {
     let Some(value) = spec.get("events") else {
         return Ok(List::new(alloc));
