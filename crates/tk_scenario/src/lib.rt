@@ -21,6 +21,8 @@ mod event;
 mod events;
 mod outcomes;
 mod scenario;
+#[cfg(test)]
+mod tests;
 mod words;
 
 pub use actors::Counts;
