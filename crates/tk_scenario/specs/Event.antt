@@ -1,5 +1,5 @@
 -- The texts of events.
-use Rattle.std.specs.Prelude.{ℕ, Bool, ◌&&◌, nat_le, if◌then◌else◌, List, [], ◌∷◌, Option, Some, None, codes, bytes_eq}
+use Rattle.std.specs.Prelude.{ℕ, ◌&&◌, nat_le, List, [], ◌∷◌, Option, Some, None, codes, bytes_eq}
 use Rattle.tk_types.specs.declared.scenario.Kind.{Kind}
 use Rattle.tk_types.specs.declared.scenario.Viewer.{Viewer}
 use Rattle.tk_types.specs.declared.scenario.Event.{Event}
@@ -7,16 +7,7 @@ use Rattle.tk_types.specs.declared.scenario.Event.TheVariants.{Deliver, DeliverA
 use Rattle.tk_types.specs.First.{first_of}
 use Rattle.tk_names.specs.Rules.{is_object_name}
 use Rattle.tk_scenario.specs.declared.actors.Counts.{Counts}
-use Rattle.tk_scenario.specs.Words.{words_of, number_told, kind_told, status_told, viewer_told, taker_told}
-
-infixl 10 ◌>>=◌
-abbrev pub ◌>>=◌ : {A B : Type 0} → Option A → (A → Option B) → Option B
-None >>= f = None
-(Some x) >>= f = f x
-
--- what is told where the test holds
-abbrev pub only_if : {X : Type 0} → Bool → Option X → Option X
-only_if test told = if test then told else None
+use Rattle.tk_scenario.specs.Words.{◌>>=◌, only_if, words_of, number_told, kind_told, status_told, viewer_told, taker_told}
 
 -- the greatest moment of a clock, in milliseconds
 abbrev pub last_moment : ℕ

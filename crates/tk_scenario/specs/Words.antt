@@ -14,6 +14,15 @@ use Rattle.tk_types.specs.declared.scenario.Taker.TheVariants.{Runs as RunsOf, T
 use Rattle.tk_types.specs.Lists.{is_empty, first_row}
 use Rattle.tk_scenario.specs.declared.actors.Counts.{Counts}
 
+-- what follows is told only where something is told before it, and only where a test holds
+infixl 10 ◌>>=◌
+abbrev pub ◌>>=◌ : {A B : Type 0} → Option A → (A → Option B) → Option B
+None >>= f = None
+(Some x) >>= f = f x
+
+abbrev pub only_if : {X : Type 0} → Bool → Option X → Option X
+only_if test told = if test then told else None
+
 -- the words of a text: a space stands between two
 abbrev pub words_of : List ℕ → List (List ℕ)
 words_of text = slice_split (λ b. b == 32) text
@@ -28,15 +37,13 @@ is_numeral word = not (is_empty word) && list_all is_ascii_digit word && not (ha
 
 -- the number below 2^64 that a word tells
 abbrev pub number_told : List ℕ → Option ℕ
-number_told word = if is_numeral word && nat_lt (digits_value 10 word) (2 ^ 64) then Some (digits_value 10 word) else None
+number_told word = only_if (is_numeral word && nat_lt (digits_value 10 word) (2 ^ 64)) (Some (digits_value 10 word))
 
--- the number that a word tells of one of so many, counted from 0
-abbrev pub at_most_before : ℕ → Option ℕ → Option ℕ
-at_most_before count None = None
-at_most_before count (Some i) = if nat_lt i count then Some i else None
-
+-- the index that a word tells, of so many actors
 abbrev pub index_told : ℕ → List ℕ → Option ℕ
-index_told count word = at_most_before count (number_told word)
+index_told count word = do
+  i ← number_told word
+  only_if (nat_lt i count) (Some i)
 
 -- the kind of object, and the status that is asked
 abbrev pub kind_told : List ℕ → Option Kind
