@@ -10,3 +10,4 @@ pub mod StepFacts
 pub mod TextFault
 pub mod WholeElement
 pub mod WithPair
+pub mod WordFacts

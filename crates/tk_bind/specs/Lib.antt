@@ -3,6 +3,7 @@ pub mod Check
 pub mod Completing
 pub mod Fits
 pub mod Found
+pub mod Lacking
 pub mod Params
 pub mod Readings
 pub mod Refusal

@@ -9,7 +9,7 @@ ghost use Rattle.tk_bind.specs.Substitute.{element, substituted};
 
 use crate::bind::bind_params;
 use crate::env::Env;
-use crate::lookup::Lookup;
+use crate::lookup::{Lookup, index_of};
 use crate::refusal::BindError;
 use std::alloc::{AllocError, Global};
 use tk_types::{List, Pair, Param, ResultSpec, SpaceSpec, Step, TaskBody, Text, TryCopy};
@@ -188,6 +188,7 @@ pub fn fits(alloc: Global, body: &TaskBody, given: &[Param]) -> Result<bool, All
     };
     push_params(alloc, &mut params, given)?;
     let env = step_env(alloc, body, params)?;
-    let lookup = Lookup::new(alloc, &env)?;
+    let index = index_of(alloc, &env)?;
+    let lookup = Lookup::new(&index, &[]);
     steps_have_values(alloc, &lookup, body.spec.steps.as_slice())
 }

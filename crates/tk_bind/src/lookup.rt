@@ -1,10 +1,10 @@
-ghost use Rattle.std.specs.Prelude.{◌≡◌, IfOk, option_map};
+ghost use Rattle.std.specs.Prelude.{◌≡◌, ◌++◌, IfOk, option_map};
 ghost use Rattle.std.specs.Option.{option_copied};
 ghost use Rattle.tk_types.specs.Value.{value_named, text_at};
 ghost use Rattle.tk_bind.specs.Found.{found_value, meant};
 ghost use Rattle.tk_bind.specs.Substitute.{result_named, target_value, reference_value};
 
-use crate::env::Env;
+use crate::env::{Env, Given};
 use crate::found::Found;
 use crate::index::FirstNamed;
 use crate::key::{key_of, key_part};
@@ -16,43 +16,41 @@ use std::marker::Model;
 use tk_types::{Pair, Param, Text, Value};
 use tk_vars::Reference;
 
-/// An environment whose names are indexed. A contract sees the environment.
+/// Values by name, indexed. A contract sees them as an environment.
 #[derive(Drop)]
-pub struct Lookup<'a> {
-    env: &'a Env,
-    params: FirstNamed<'a, Param>,
-    results: TaskResults<'a>,
-    words: FirstNamed<'a, Pair>,
+pub struct EnvIndex<'p, 'r, 'w> {
+    params: FirstNamed<'p, Param>,
+    results: TaskResults<'r>,
+    words: FirstNamed<'w, Pair>,
 }
 
-impl<'a> Model for Lookup<'a> {
-    ghost use Rattle.std.specs.Prelude.{◌≡◌};
+impl<'p, 'r, 'w> Model for EnvIndex<'p, 'r, 'w> {
     ghost use Rattle.tk_bind.specs.declared.env.Env.{Env};
 
     ghost Value = { Env };
 
-    ghost view = { λ lookup. lookup.env.now };
-
-    ghost invariant = { λ lookup. (lookup.params ≡ lookup.env.now.params)
-        × (lookup.results ≡ lookup.env.now.results)
-        × (lookup.words ≡ lookup.env.now.words) };
+    ghost view = { λ index. record { params = index.params; results = index.results; words = index.words } };
 }
 
-impl<'a> Lookup<'a> {
-    /// An index of an environment. The only error is want of memory.
-    pub fn new(alloc: Global, env: &'a Env) -> Result<Self, AllocError>
-        ensures { IfOk result (λ lookup. lookup ≡ env.now) }
+impl<'p, 'r, 'w> EnvIndex<'p, 'r, 'w> {
+    /// An index of these parameters, results and words. The only error is want of memory.
+    pub fn new(
+        alloc: Global,
+        params: &'p [Param],
+        results: &'r [Given],
+        words: &'w [Pair],
+    ) -> Result<Self, AllocError>
+        ensures { IfOk result (λ index. index ≡ record { params = params.now; results = results.now; words = words.now }) }
     {
-        Ok(Lookup {
-            env,
-            params: FirstNamed::new(alloc, env.params.as_slice())?,
-            results: TaskResults::new(alloc, env.results.as_slice())?,
-            words: FirstNamed::new(alloc, env.words.as_slice())?,
+        Ok(EnvIndex {
+            params: FirstNamed::new(alloc, params)?,
+            results: TaskResults::new(alloc, results)?,
+            words: FirstNamed::new(alloc, words)?,
         })
     }
 
     /// The value of a parameter.
-    fn param(&self, name: &str) -> Option<&'a Value>
+    fn param(&self, name: &str) -> Option<&Value>
         ensures { option_copied result ≡ value_named name.now self.now.params }
     {
         match self.params.get(name) {
@@ -62,7 +60,7 @@ impl<'a> Lookup<'a> {
     }
 
     /// The value of a result of a task.
-    fn task_result(&self, task: &str, name: &str) -> Option<&'a Value>
+    fn task_result(&self, task: &str, name: &str) -> Option<&Value>
         ensures { option_copied result ≡ result_named task.now name.now self.now.results }
     {
         match self.results.get(task, name) {
@@ -72,7 +70,7 @@ impl<'a> Lookup<'a> {
     }
 
     /// The text of a word.
-    fn word(&self, key: &str) -> Option<&'a Text>
+    fn word(&self, key: &str) -> Option<&Text>
         ensures { option_copied result ≡ text_at key.now self.now.words }
     {
         match self.words.get(key) {
@@ -80,8 +78,80 @@ impl<'a> Lookup<'a> {
             None => None,
         }
     }
+}
 
-    fn target_value(&self, alloc: Global, target: Target) -> Result<Option<Found<'a>>, AllocError>
+/// An index of an environment. The only error is want of memory.
+pub(crate) fn index_of<'e>(alloc: Global, env: &'e Env) -> Result<EnvIndex<'e, 'e, 'e>, AllocError>
+    ensures { IfOk result (λ index. index ≡ env.now) }
+{
+    let params = env.params.as_slice();
+    let results = env.results.as_slice();
+    EnvIndex::new(alloc, params, results, env.words.as_slice())
+}
+
+/// An indexed environment with a few words in front, which aren't indexed. A contract sees the environment.
+#[derive(Drop)]
+pub struct Lookup<'i, 'p, 'r, 'w, 'o> {
+    index: &'i EnvIndex<'p, 'r, 'w>,
+    own: &'o [Pair],
+}
+
+impl<'i, 'p, 'r, 'w, 'o> Model for Lookup<'i, 'p, 'r, 'w, 'o> {
+    ghost use Rattle.std.specs.Prelude.{◌++◌};
+    ghost use Rattle.tk_bind.specs.declared.env.Env.{Env};
+
+    ghost Value = { Env };
+
+    ghost view = { λ lookup. record { params = lookup.index.now.params; results = lookup.index.now.results; words = lookup.own.now ++ lookup.index.now.words } };
+}
+
+/// The text of a word among a few.
+fn word_in<'o>(words: &'o [Pair], key: &str) -> Option<&'o Text>
+    ensures { option_copied result ≡ text_at key.now words.now }
+{
+    words
+        .iter()
+        .find(|word| word.key.as_str() == key)
+        .map(|word| &word.value)
+}
+
+impl<'i, 'p, 'r, 'w, 'o> Lookup<'i, 'p, 'r, 'w, 'o> {
+    /// The environment with these words in front.
+    pub fn new(index: &'i EnvIndex<'p, 'r, 'w>, own: &'o [Pair]) -> Self
+        ensures { result ≡ record { params = index.now.params; results = index.now.results; words = own.now ++ index.now.words } }
+    {
+        Lookup { index, own }
+    }
+
+    /// The value of a parameter.
+    fn param(&self, name: &str) -> Option<&Value>
+        ensures { option_copied result ≡ value_named name.now self.now.params }
+    {
+        self.index.param(name)
+    }
+
+    /// The value of a result of a task.
+    pub(crate) fn task_result(&self, task: &str, name: &str) -> Option<&Value>
+        ensures { option_copied result ≡ result_named task.now name.now self.now.results }
+    {
+        self.index.task_result(task, name)
+    }
+
+    /// The text of a word.
+    fn word(&self, key: &str) -> Option<&Text>
+        ensures { option_copied result ≡ text_at key.now self.now.words }
+    {
+        if let Some(text) = word_in(self.own, key) {
+            return Some(text);
+        }
+        self.index.word(key)
+    }
+
+    fn target_value<'s>(
+        &'s self,
+        alloc: Global,
+        target: Target,
+    ) -> Result<Option<Found<'s>>, AllocError>
         ensures { IfOk result (λ found. option_map found_value found ≡ target_value self.now (meant target.entry)) }
     {
         match target {
@@ -107,11 +177,11 @@ impl<'a> Lookup<'a> {
     }
 
     /// The value that a reference takes, where it has one. The only error is want of memory.
-    pub fn reference_value(
-        &self,
+    pub fn reference_value<'s>(
+        &'s self,
         alloc: Global,
         reference: &Reference,
-    ) -> Result<Option<Found<'a>>, AllocError>
+    ) -> Result<Option<Found<'s>>, AllocError>
         ensures { IfOk result (λ found. option_map found_value found ≡ reference_value self.now reference.now) }
     {
         self.target_value(alloc, target_of(reference.parts.as_slice()))

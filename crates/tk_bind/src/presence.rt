@@ -11,7 +11,7 @@ use std::alloc::{AllocError, Global};
 use tk_types::{Pair, Text};
 use tk_vars::{Piece, Reference};
 
-impl<'a> Lookup<'a> {
+impl<'i, 'p, 'r, 'w, 'o> Lookup<'i, 'p, 'r, 'w, 'o> {
     /// Whether the reference takes a text.
     fn has_text(&self, alloc: Global, reference: &Reference) -> Result<bool, AllocError>
         ensures { IfOk result (λ has. has ≡ is_some (option_and_then as_text (reference_value self.now reference.now))) }

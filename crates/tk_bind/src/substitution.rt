@@ -10,7 +10,7 @@ ghost use Rattle.tk_bind.specs.Substitute.{on_ok, as_text, as_list, element, joi
 
 use crate::env::Env;
 use crate::found::Found;
-use crate::lookup::Lookup;
+use crate::lookup::{Lookup, index_of};
 use crate::refusal::SubstituteError;
 use std::alloc::{AllocError, Global};
 use tk_types::{List, Pair, Text, TryCopy, Value};
@@ -54,9 +54,13 @@ fn push_all(alloc: Global, made: &mut List<Text>, texts: &[Text]) -> Result<(), 
     Ok(())
 }
 
-impl<'a> Lookup<'a> {
+impl<'i, 'p, 'r, 'w, 'o> Lookup<'i, 'p, 'r, 'w, 'o> {
     /// The text that a reference takes.
-    fn text_of(&self, alloc: Global, reference: &Reference) -> Result<&'a Text, SubstituteError>
+    fn text_of<'s>(
+        &'s self,
+        alloc: Global,
+        reference: &Reference,
+    ) -> Result<&'s Text, SubstituteError>
         ensures value { IfOk result (λ text. ok_or (option_and_then as_text (reference_value self.now reference.now)) reference.now.spelling ≡ Ok text.now) }
         ensures refused { IfErr result (IsUnavailable (ok_or (option_and_then as_text (reference_value self.now reference.now)) reference.now.spelling)) }
     {
@@ -69,7 +73,11 @@ impl<'a> Lookup<'a> {
     }
 
     /// The list that a reference takes.
-    fn list_of(&self, alloc: Global, reference: &Reference) -> Result<&'a [Text], SubstituteError>
+    fn list_of<'s>(
+        &'s self,
+        alloc: Global,
+        reference: &Reference,
+    ) -> Result<&'s [Text], SubstituteError>
         ensures value { IfOk result (λ texts. ok_or (option_and_then as_list (reference_value self.now reference.now)) reference.now.spelling ≡ Ok texts.now) }
         ensures refused { IfErr result (IsUnavailable (ok_or (option_and_then as_list (reference_value self.now reference.now)) reference.now.spelling)) }
     {
@@ -226,7 +234,8 @@ pub fn substitute(alloc: Global, text: &str, env: &Env) -> Result<Text, Substitu
     ensures value { IfOk result (λ t. substituted env.now text.now ≡ Ok t) }
     ensures refused { IfErr result (IsUnavailable (substituted env.now text.now)) }
 {
-    let lookup = Lookup::new(alloc, env)?;
+    let index = index_of(alloc, env)?;
+    let lookup = Lookup::new(&index, &[]);
     lookup.substitute(alloc, text)
 }
 
@@ -240,7 +249,8 @@ pub fn substitute_list(
     ensures value { IfOk result (λ ts. substituted_list env.now texts.now ≡ Ok ts) }
     ensures refused { IfErr result (IsUnavailable (substituted_list env.now texts.now)) }
 {
-    let lookup = Lookup::new(alloc, env)?;
+    let index = index_of(alloc, env)?;
+    let lookup = Lookup::new(&index, &[]);
     lookup.substitute_list(alloc, texts)
 }
 
@@ -250,6 +260,7 @@ pub fn substitute_value(alloc: Global, value: &Value, env: &Env) -> Result<Value
     ensures value { IfOk result (λ v. substituted_value env.now value.now ≡ Ok v) }
     ensures refused { IfErr result (IsUnavailable (substituted_value env.now value.now)) }
 {
-    let lookup = Lookup::new(alloc, env)?;
+    let index = index_of(alloc, env)?;
+    let lookup = Lookup::new(&index, &[]);
     lookup.substitute_value(alloc, value)
 }

@@ -254,7 +254,8 @@ fn all_shown(alloc: Global, params: &[Param]) -> Result<String, AllocError> {
 
 /// What `matrix_in` gives.
 fn made(alloc: Global, list: &[&str], entry: &[&str], env: &Env) -> Result<String, ScanError> {
-    let lookup = Lookup::new(alloc, env)?;
+    let index = index_of(alloc, env)?;
+    let lookup = Lookup::new(&index, &[]);
     let matrix = Some(matrix(alloc, list, entry)?);
     let Some(Some(matrix)) = matrix_in(alloc, &lookup, &matrix)? else {
         return Ok(String::from_str(alloc, "none")?);

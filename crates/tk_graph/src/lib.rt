@@ -12,6 +12,7 @@ mod ordering;
 mod references;
 mod refusal;
 mod removal;
+mod texts;
 mod unknown;
 mod walk;
 
@@ -19,3 +20,4 @@ pub use above::{all_parents, parents};
 pub use names::Names;
 pub use ordering::{Ranks, order};
 pub use refusal::OrderError;
+pub use texts::{result_tasks, task_texts};

@@ -81,7 +81,11 @@ fn add_of_pieces(alloc: Global, pieces: &[Piece], names: &mut List<Text>) -> Res
 }
 
 /// Adds the tasks to whose results a text refers; one without a reading refers to none.
-fn add_of_text(alloc: Global, text: &str, names: &mut List<Text>) -> Result<(), AllocError>
+pub(crate) fn add_of_text(
+    alloc: Global,
+    text: &str,
+    names: &mut List<Text>,
+) -> Result<(), AllocError>
     ensures { OnOk result (names.new ≡ names.old ++ text_tasks text.now) }
 {
     one_bad_offset();
