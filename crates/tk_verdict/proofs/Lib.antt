@@ -1,9 +1,5 @@
 pub mod Below
-pub mod FailureFacts
-pub mod Judging
 pub mod Locality
 pub mod OneLabelling
 pub mod RightLabels
 pub mod Rounds
-pub mod TallyFacts
-pub mod Walking

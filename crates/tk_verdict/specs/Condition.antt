@@ -1,6 +1,7 @@
--- The condition of a run (Tekton, PipelineRuns, Monitoring execution status).
-use Rattle.std.specs.Prelude.{ℕ, Bool, true, false, ◌&&◌, ◌||◌, not, if◌then◌else◌, List, [], ◌∷◌, Option, Some, None, unwrap_or, codes}
+-- The condition and the results of a run (Tekton, PipelineRuns, Monitoring execution status; Pipelines, Emitting Results from a Pipeline).
+use Rattle.std.specs.Prelude.{ℕ, Bool, true, false, ◌&&◌, ◌||◌, not, if◌then◌else◌, List, [], ◌∷◌, Option, Some, None, filter_map, unwrap_or, codes}
 use Rattle.std.specs.List.{list_any, list_all, enumerate_from}
+use Rattle.tk_types.specs.declared.value.Param.{Param}
 use Rattle.tk_types.specs.declared.task.PipelineTask.{PipelineTask}
 use Rattle.tk_types.specs.declared.run.Facts.{Facts}
 use Rattle.tk_types.specs.declared.run.Start.TheVariants.{Ready as Startable, Unstartable}
@@ -11,6 +12,8 @@ use Rattle.tk_types.specs.declared.verdict.Condition.{Condition}
 use Rattle.tk_types.specs.Lists.{first_row}
 use Rattle.tk_verdict.specs.Facts.{all_tasks, children_of, has_ended, is_failure, is_cancelled}
 use Rattle.tk_verdict.specs.Verdict.{is_done, is_skipped, is_broken_label}
+use Rattle.tk_verdict.specs.Words.{results_env}
+use Rattle.tk_bind.specs.Params.{param_in}
 
 -- tests of a stop
 
@@ -68,3 +71,7 @@ finished facts labels = unwrap_or (first_row (condition_rows facts labels)) (tru
 abbrev pub condition_of : Facts → List Verdict → Option Condition
 condition_of facts labels =
     elim facts.spec.start [ Unstartable reason ↦ Some (false_with reason) | Startable ↦ if list_all is_done labels then Some (finished facts labels) else None ]
+
+-- the pipeline's results all of whose references have values
+abbrev pub results_of : Facts → List Param
+results_of facts = filter_map (param_in (results_env facts)) facts.spec.results

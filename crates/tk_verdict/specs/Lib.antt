@@ -1,11 +1,11 @@
+pub mod Available
+pub mod Bindings
 pub mod Condition
 pub mod Facts
-pub mod Failures
 pub mod Labels
-pub mod Plain
 pub mod Rows
 pub mod Sequence
-pub mod Tally
 pub mod Texts
 pub mod Verdict
 pub mod WellFormed
+pub mod Words
