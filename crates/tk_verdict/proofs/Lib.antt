@@ -1,5 +1,6 @@
 pub mod Below
 pub mod Locality
+pub mod MatrixLists
 pub mod OneLabelling
 pub mod RightLabels
 pub mod Rounds

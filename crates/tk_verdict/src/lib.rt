@@ -2,6 +2,8 @@
 //! labelling is right where each task has the label that the others' give it; an acyclic run has exactly one.
 #![tactic(auto)]
 
+mod combined;
+mod guards;
 mod label;
 pub mod laws;
 mod outcome;
