@@ -3,6 +3,7 @@ pub mod Bindings
 pub mod Condition
 pub mod Facts
 pub mod Labels
+pub mod Own
 pub mod Readings
 pub mod Rows
 pub mod Sequence

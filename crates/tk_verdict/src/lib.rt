@@ -7,4 +7,5 @@ mod guards;
 mod label;
 pub mod laws;
 mod outcome;
+mod own;
 mod sequence;
