@@ -1,6 +1,7 @@
 pub mod Below
 pub mod Locality
 pub mod MatrixLists
+pub mod Named
 pub mod OneLabelling
 pub mod RightLabels
 pub mod Rounds

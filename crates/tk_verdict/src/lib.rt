@@ -8,4 +8,5 @@ mod label;
 pub mod laws;
 mod outcome;
 mod own;
+mod parents;
 mod sequence;
