@@ -6,6 +6,7 @@ mod combined;
 mod guards;
 mod label;
 pub mod laws;
+mod missing;
 mod outcome;
 mod own;
 mod parents;

@@ -20,11 +20,7 @@ pub(crate) struct Own {
 }
 
 /// What the own texts of a task give. The only error is want of memory.
-pub(crate) fn own_of(
-    alloc: Global,
-    lookup: &Lookup,
-    task: &PipelineTask,
-) -> Result<Own, AllocError>
+pub(crate) fn own_of(alloc: Global, lookup: &Lookup, task: &PipelineTask) -> Result<Own, AllocError>
     requires { ReadsTask task.now }
     ensures { IfOk result (λ own. own ≡ own_in lookup.now task.now) }
 {
@@ -35,11 +31,7 @@ pub(crate) fn own_of(
 }
 
 /// Whether each combination fits a body.
-fn all_fit(
-    alloc: Global,
-    body: &TaskBody,
-    combinations: &[List<Param>],
-) -> Result<bool, AllocError>
+fn all_fit(alloc: Global, body: &TaskBody, combinations: &[List<Param>]) -> Result<bool, AllocError>
     requires { ReadsBody body.now }
     ensures { IfOk result (λ fit. fit ≡ list_all (fits_body body.now) combinations.now) }
 {

@@ -35,7 +35,8 @@ fn is_good(facts: &Facts, good: &[bool], labels: &[Verdict], place: u32) -> bool
     requires { AreGood facts.now good.now }
     ensures { result ≡ is_good_parent facts.now (place, label_of_place labels.now place) }
 {
-    good.get(place as usize).copied().unwrap_or(false) || is_skipped_by_when(label_at(labels, place))
+    good.get(place as usize).copied().unwrap_or(false)
+        || is_skipped_by_when(label_at(labels, place))
 }
 
 /// Whether all parents are good, or skipped by their own guards.
@@ -97,12 +98,7 @@ pub(crate) fn lacks_result(
 }
 
 /// Whether one of the named parents is skipped.
-fn any_skipped(
-    facts: &Facts,
-    labels: &[Verdict],
-    parents: &[u32],
-    names: &FirstNamed<Text>,
-) -> bool
+fn any_skipped(facts: &Facts, labels: &[Verdict], parents: &[u32], names: &FirstNamed<Text>) -> bool
     ensures { result ≡ list_any (λ p. is_skipped_label (label_of_place labels.now p) && option_map_or (λ (parent : Task). list_any (λ name. bytes_eq name parent.name) names.now) (slice_get (all_tasks facts.now) p) false) parents.now }
 {
     for place in parents {
