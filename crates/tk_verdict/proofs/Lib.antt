@@ -1,4 +1,5 @@
 pub mod Below
+pub mod GroupFacts
 pub mod Locality
 pub mod MatrixLists
 pub mod MissingTexts

@@ -3,6 +3,7 @@
 #![tactic(auto)]
 
 mod combined;
+mod groups;
 mod guards;
 mod label;
 pub mod laws;
