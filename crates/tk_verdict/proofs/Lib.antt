@@ -7,3 +7,4 @@ pub mod Named
 pub mod OneLabelling
 pub mod RightLabels
 pub mod Rounds
+pub mod SortedFacts

@@ -12,3 +12,4 @@ mod outcome;
 mod own;
 mod parents;
 mod sequence;
+mod sorted;
