@@ -1,5 +1,7 @@
 pub mod Below
 pub mod GroupFacts
+pub mod Indexes
+pub mod LabelParts
 pub mod Locality
 pub mod MatrixLists
 pub mod MissingTexts

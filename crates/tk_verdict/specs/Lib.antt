@@ -5,6 +5,7 @@ pub mod Facts
 pub mod Good
 pub mod Labels
 pub mod Own
+pub mod Parting
 pub mod Readings
 pub mod Rows
 pub mod Sequence

@@ -2,9 +2,11 @@
 //! labelling is right where each task has the label that the others' give it; an acyclic run has exactly one.
 #![tactic(auto)]
 
+mod children;
 mod combined;
 mod groups;
 mod guards;
+mod judge;
 mod label;
 pub mod laws;
 mod missing;
