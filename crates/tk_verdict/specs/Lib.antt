@@ -9,6 +9,7 @@ pub mod Parting
 pub mod Readings
 pub mod Rows
 pub mod Sequence
+pub mod Status
 pub mod Texts
 pub mod Verdict
 pub mod WellFormed

@@ -1,5 +1,5 @@
 ghost use Rattle.std.specs.Prelude.{◌≡◌};
-ghost use Rattle.tk_verdict.specs.Verdict.{blocks as blocks_children, is_broken_label, is_done as is_done_label, is_skipped as is_skipped_label, is_skipped_by_when as is_refused};
+ghost use Rattle.tk_verdict.specs.Verdict.{blocks as blocks_children, is_broken_label, is_done as is_done_label, is_skipped as is_skipped_label, is_skipped_by_when as is_refused, is_stopped_label};
 
 use tk_types::{SkipReason, Verdict};
 
@@ -22,6 +22,13 @@ pub fn is_broken(label: Verdict) -> bool
     ensures { result ≡ is_broken_label label }
 {
     matches!(label, Verdict::Skipped(SkipReason::Broken))
+}
+
+/// Whether a task is skipped by a stop.
+pub fn is_stopped(label: Verdict) -> bool
+    ensures { result ≡ is_stopped_label label }
+{
+    matches!(label, Verdict::Skipped(SkipReason::Stopped(_)))
 }
 
 /// Whether a task is skipped so that the tasks behind it are too.

@@ -15,3 +15,5 @@ mod own;
 mod parents;
 mod sequence;
 mod sorted;
+mod status;
+mod words;

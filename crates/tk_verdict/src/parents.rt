@@ -14,7 +14,7 @@ use tk_graph::result_tasks;
 use tk_types::{Facts, PipelineTask, Text, Verdict};
 
 /// The label at a place.
-fn label_at(labels: &[Verdict], place: u32) -> Verdict
+pub(crate) fn label_at(labels: &[Verdict], place: u32) -> Verdict
     ensures { result ≡ label_of_place labels.now place }
 {
     labels
