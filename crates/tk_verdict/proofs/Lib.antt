@@ -7,6 +7,8 @@ pub mod MatrixLists
 pub mod MissingTexts
 pub mod Named
 pub mod OneLabelling
+pub mod Reading
 pub mod RightLabels
 pub mod Rounds
 pub mod SortedFacts
+pub mod TaskLine

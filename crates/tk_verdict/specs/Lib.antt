@@ -2,6 +2,7 @@ pub mod Available
 pub mod Bindings
 pub mod Condition
 pub mod Facts
+pub mod Gathered
 pub mod Good
 pub mod Labels
 pub mod Own

@@ -16,4 +16,5 @@ mod parents;
 mod sequence;
 mod sorted;
 mod status;
+mod tasks;
 mod words;

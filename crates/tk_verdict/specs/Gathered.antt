@@ -1,0 +1,44 @@
+-- What is gathered of a run before its tasks are judged.
+use Rattle.std.specs.Prelude.{◌≡◌, Bool, if◌then◌else◌, List, [], length, map, All, Option, Some, ℕ}
+use Rattle.tk_types.specs.declared.task.PipelineTask.{PipelineTask}
+use Rattle.tk_types.specs.declared.task.TaskBody.{TaskBody}
+use Rattle.tk_types.specs.declared.run.Facts.{Facts}
+use Rattle.tk_types.specs.declared.run.Child.{Child}
+use Rattle.tk_types.specs.declared.verdict.SkipReason.{SkipReason}
+use Rattle.tk_types.specs.declared.verdict.SkipReason.TheVariants.{Missing}
+use Rattle.tk_types.specs.declared.verdict.Verdict.{Verdict}
+use Rattle.tk_bind.specs.declared.env.Env.{Env}
+use Rattle.tk_verdict.specs.Facts.{all_tasks, task_total}
+use Rattle.tk_verdict.specs.Good.{AreGood}
+use Rattle.tk_verdict.specs.Own.{own_in, row_by}
+use Rattle.tk_verdict.specs.Readings.{ReadsBody, ReadsTask}
+use Rattle.tk_verdict.specs.Rows.{lacks_any_result, lacks_result}
+use Rattle.tk_verdict.specs.Verdict.{label_at}
+use Rattle.tk_verdict.specs.Words.{env_with, finally_env, task_env}
+
+-- the texts of the tasks and of their bodies have readings, and there is one body a task
+pub record IsReadable (facts : Facts) : Type 0 where
+  pub tasks : All ReadsTask facts.spec.tasks
+  pub finals : All ReadsTask facts.spec.finally
+  pub bodies : All ReadsBody facts.spec.bodies
+  pub one_body_each : length facts.spec.bodies ≡ task_total facts
+
+-- the children, which tasks are good, and the parameters and results
+pub record IsGathered (facts : Facts) (children : List Child) (good : List Bool) (env : Env) : Type 0 where
+  pub all_children : children ≡ facts.children
+  pub are_good : AreGood facts good
+  pub env_is : env ≡ env_with facts []
+
+-- parents with their labels
+abbrev pub labelled : List Verdict → List ℕ → List (ℕ × Verdict)
+labelled labels places = map (λ p. (p, label_at labels p)) places
+
+-- why a task whose parents are good is skipped
+abbrev pub good_row : Facts → List (ℕ × Verdict) → PipelineTask → TaskBody → Option SkipReason
+good_row facts parents task body = if lacks_result facts parents task then Some Missing else row_by body (own_in (task_env facts task) task)
+
+-- why a task of `finally` is skipped, once all of `tasks` are done
+abbrev pub final_row : Facts → List Verdict → PipelineTask → TaskBody → Option SkipReason
+final_row facts labels task body =
+    let env = finally_env facts labels task in
+    if lacks_any_result env task then Some Missing else row_by body (own_in env task)
