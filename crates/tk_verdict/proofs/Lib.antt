@@ -1,8 +1,10 @@
 pub mod Below
+pub mod FinalLine
 pub mod GroupFacts
 pub mod Indexes
 pub mod LabelParts
 pub mod Locality
+pub mod Mapped
 pub mod MatrixLists
 pub mod MissingTexts
 pub mod Named

@@ -4,6 +4,8 @@
 
 mod children;
 mod combined;
+mod finals;
+mod good;
 mod groups;
 mod guards;
 mod judge;
