@@ -4,6 +4,7 @@
 
 mod children;
 mod combined;
+mod emitted;
 mod finals;
 mod good;
 mod groups;
