@@ -1,3 +1,4 @@
+pub mod AvailableFacts
 pub mod Below
 pub mod FinalLine
 pub mod GroupFacts

@@ -2,6 +2,7 @@
 //! labelling is right where each task has the label that the others' give it; an acyclic run has exactly one.
 #![tactic(auto)]
 
+mod available;
 mod children;
 mod combined;
 mod emitted;
