@@ -11,5 +11,5 @@ returns c =
     let now = λ (child : Bor Child). child.now in
     let index = λ (child : Bor Child). child.now.index in
     let keys = answers_always _ _ _ (λ f a r next called. search rules) in
-    by_index-from_sort now _ _ (IsNonDecreasingBy-from_sort index _ (c.in_ok-sort_by_key.ensures.sorted index keys)) (c.in_ok-sort_by_key.ensures.stable index keys)
+    by_index-from_sort now c.in_ok-sorted.sorted.items c.sort_by_key.new.self.items (IsNonDecreasingBy-from_sort index c.sort_by_key.new.self.items (c.in_ok-sort_by_key.ensures.sorted index keys)) (c.in_ok-sort_by_key.ensures.stable index keys)
     ∙ ap (λ children. by_index (map now children)) c.in_ok-sorted.ensures
