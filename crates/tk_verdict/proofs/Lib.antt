@@ -1,4 +1,5 @@
 pub mod AvailableFacts
+pub mod AllLabels
 pub mod Below
 pub mod FinalLine
 pub mod GroupFacts
@@ -15,3 +16,4 @@ pub mod RightLabels
 pub mod Rounds
 pub mod SortedFacts
 pub mod TaskLine
+pub mod Walking
