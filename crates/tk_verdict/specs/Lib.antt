@@ -3,10 +3,13 @@ pub mod Bindings
 pub mod Condition
 pub mod Facts
 pub mod Gathered
+pub mod Gives
 pub mod Good
 pub mod Labels
+pub mod Moves
 pub mod Own
 pub mod Parting
+pub mod Progress
 pub mod Readings
 pub mod Rows
 pub mod Sequence

@@ -1,0 +1,159 @@
+-- Facts that show what fails without a premise of the laws.
+use Rattle.std.specs.Prelude.{◌≡◌, refl, ℕ, List, [], ◌∷◌, ◌++◌, Some, None, true, false, codes}
+use Rattle.tk_types.specs.declared.value.Param.{Param}
+use Rattle.tk_types.specs.declared.value.Value.TheVariants.{Str}
+use Rattle.tk_types.specs.declared.run.Child.{Child}
+use Rattle.tk_types.specs.declared.run.Facts.{Facts}
+use Rattle.tk_types.specs.declared.run.Outcome.TheVariants.{Succeeded}
+use Rattle.tk_types.specs.declared.run.RunSpec.{RunSpec}
+use Rattle.tk_types.specs.declared.run.Start.TheVariants.{Ready as Startable}
+use Rattle.tk_types.specs.declared.run.Stop.{Stop}
+use Rattle.tk_types.specs.declared.run.Stop.TheVariants.{Failure}
+use Rattle.tk_types.specs.declared.task.Step.{Step}
+use Rattle.tk_types.specs.declared.task.TaskBody.{TaskBody}
+use Rattle.tk_types.specs.declared.task.TaskSpec.{TaskSpec}
+use Rattle.tk_types.specs.declared.task.TaskSource.TheVariants.{Named}
+use Rattle.tk_types.specs.declared.task.PipelineTask.{PipelineTask}
+use Rattle.tk_types.specs.declared.verdict.SkipReason.TheVariants.{Broken, When, Stopped}
+use Rattle.tk_types.specs.declared.verdict.Verdict.TheVariants.{Ran, Skipped, Runs, Ready, Wrong}
+use Rattle.tk_graph.specs.Results.{text_results}
+use Rattle.tk_verdict.specs.Labels.{labels_of, bindings_at}
+
+-- a body that runs `true`, for each task
+abbrev body : TaskBody
+body =
+    let step : Step = record { name = None; command = codes "true" ∷ []; args = []; script = None; env = []; dir = None; keep_going = false } in
+    let spec : TaskSpec = record { params = []; steps = step ∷ []; results = []; spaces = [] } in
+    record { spec = spec; task_name = []; outer = []; fallback = []; bound = [] }
+
+abbrev bodies : List PipelineTask → List TaskBody
+bodies [] = []
+bodies (task ∷ tasks) = body ∷ bodies tasks
+
+-- a task of a name, with parameters, behind others
+abbrev task : List ℕ → List Param → List (List ℕ) → PipelineTask
+task name params run_after =
+    record { name = name; source = Named []; params = params; matrix = None; run_after = run_after; when = []; retries = 0; timeout = 0; ignore_failure = false; spaces = [] }
+
+-- the same behind a guard that is false
+abbrev guarded : PipelineTask → PipelineTask
+guarded t = record t { when = record { input = codes "x"; is_member = true; values = [] } ∷ [] }
+
+abbrev run : List PipelineTask → List PipelineTask → List Stop → List Child → Facts
+run tasks finally stops children =
+    let spec : RunSpec = record {
+      name = codes "r";
+      pipeline = codes "p";
+      params = [];
+      tasks = tasks;
+      finally = finally;
+      bodies = bodies (tasks ++ finally);
+      results = [];
+      pipeline_ms = 3600000;
+      tasks_ms = 0;
+      finally_ms = 0;
+      start = Startable;
+    } in
+    record { spec = spec; stops = stops; children = children }
+
+-- the first child of a task, that runs, and that ended with a result `x`
+abbrev runs : ℕ → Child
+runs place = record { task = place; index = 0; outcome = None }
+
+abbrev ended : ℕ → List ℕ → Child
+ended place text = record { task = place; index = 0; outcome = Some (Succeeded (record { name = codes "x"; value = Str text } ∷ [])) }
+
+-- a parameter `v` with a text
+abbrev with_text : List ℕ → List Param
+with_text text = record { name = codes "v"; value = Str text } ∷ []
+
+-- A matrix with neither lists nor include entries: its task is given no binding, and stays Ready.
+
+abbrev empty_matrix : Facts
+empty_matrix = run (record (task (codes "a") [] []) { matrix = Some record { params = []; include = [] } } ∷ []) [] [] []
+
+is_ready : labels_of empty_matrix ≡ Ready ∷ []
+is_ready = refl
+
+no_bindings : bindings_at empty_matrix (labels_of empty_matrix) 0 ≡ Some []
+no_bindings = refl
+
+-- A Ready task doesn't stay Ready where a stop is recorded.
+
+abbrev one : List Stop → List Child → Facts
+one = run (task (codes "a") [] [] ∷ []) []
+
+ready_before : labels_of (one [] []) ≡ Ready ∷ []
+ready_before = refl
+
+stopped_after : labels_of (one (Failure ∷ []) []) ≡ Skipped (Stopped Failure) ∷ []
+stopped_after = refl
+
+-- A task that is done keeps its label only where its ancestors are done too: here it is stopped first, and then skipped by its guard.
+
+abbrev behind : List Child → Facts
+behind = run (task (codes "a") [] [] ∷ guarded (task (codes "b") [] (codes "a" ∷ [])) ∷ []) [] (Failure ∷ [])
+
+stopped_first : labels_of (behind (runs 0 ∷ [])) ≡ Runs ∷ Skipped (Stopped Failure) ∷ []
+unfolding text_results
+stopped_first = refl
+
+guarded_then : labels_of (behind (ended 0 [] ∷ [])) ≡ Ran ∷ Skipped When ∷ []
+unfolding text_results
+guarded_then = refl
+
+-- Where two tasks have one name, what the rules give a third one changes.
+
+abbrev same_names : Child → Facts
+same_names child =
+    run (task (codes "a") [] [] ∷ task (codes "b") (with_text (codes "$(tasks.a.results.x)")) [] ∷ []) (task (codes "a") [] [] ∷ task (codes "a") [] [] ∷ []) []
+    (record (runs 0) { outcome = Some (Succeeded []) } ∷ child ∷ ended 3 (codes "1") ∷ [])
+
+bound_before : bindings_at (same_names (runs 2)) (labels_of (same_names (runs 2))) 1 ≡ Some (record { params = with_text (codes "1") } ∷ [])
+unfolding text_results
+bound_before = refl
+
+bound_after : bindings_at (same_names (ended 2 (codes "2"))) (labels_of (same_names (ended 2 (codes "2")))) 1 ≡ Some (record { params = with_text (codes "2") } ∷ [])
+unfolding text_results
+bound_after = refl
+
+-- Where a task refers to a result of a task of `finally`, its label changes though it is done and has no ancestors.
+
+abbrev late_parent : List Child → Facts
+late_parent = run (task (codes "a") (with_text (codes "$(tasks.f.results.x)")) [] ∷ []) (task (codes "f") [] [] ∷ []) []
+
+broken_before : labels_of (late_parent (runs 1 ∷ [])) ≡ Skipped Broken ∷ Runs ∷ []
+unfolding text_results
+broken_before = refl
+
+ready_after : labels_of (late_parent (ended 1 (codes "1") ∷ [])) ≡ Ready ∷ Ran ∷ []
+unfolding text_results
+ready_after = refl
+
+-- The same where a text without a reading names the task.
+
+abbrev unread : List Child → Facts
+unread = run (task (codes "a") [] [] ∷ task (codes "b") (with_text (codes "$(tasks['a'].results.x)")) [] ∷ []) [] []
+
+unread_before : labels_of (unread (runs 0 ∷ [])) ≡ Runs ∷ Skipped Broken ∷ []
+unfolding text_results
+unread_before = refl
+
+unread_after : labels_of (unread (ended 0 (codes "1") ∷ [])) ≡ Ran ∷ Ready ∷ []
+unfolding text_results
+unread_after = refl
+
+-- A child of another index makes its task Wrong; the run neither goes on nor is over.
+
+wrong_child : labels_of (one [] (record (ended 0 []) { index = 5 } ∷ [])) ≡ Wrong ∷ []
+wrong_child = refl
+
+-- A task that isn't Ready and gets a child loses its label.
+
+skipped_before : labels_of (run (guarded (task (codes "a") [] []) ∷ []) [] [] []) ≡ Skipped When ∷ []
+unfolding text_results
+skipped_before = refl
+
+wrong_after : labels_of (run (guarded (task (codes "a") [] []) ∷ []) [] [] (ended 0 [] ∷ [])) ≡ Wrong ∷ []
+unfolding text_results
+wrong_after = refl

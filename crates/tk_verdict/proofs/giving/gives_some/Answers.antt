@@ -1,0 +1,11 @@
+use Rattle.tk_verdict.proofs.GivenRight.{gives_place, gives_some, gives_within}
+use Rattle.tk_verdict.proofs.giving.gives_some.Goals as goal
+
+pub returns-clause-exists : goal.returns-clause-exists
+returns-clause-exists c = gives_place
+
+pub returns-clause-some : goal.returns-clause-some
+returns-clause-some c = gives_some
+
+pub returns-clause-few : goal.returns-clause-few
+returns-clause-few c = gives_within
