@@ -1,5 +1,5 @@
 -- What holds of each element of a list, and tests that agree on each.
-use Rattle.std.proofs.Common.{◌≡◌, ℕ, zero, suc, ◌+◌, ◌<◌, Bool, true, false, ◌&&◌, ◌||◌, List, [], ◌∷◌, ◌++◌, map, length, get_or, Some, refl, sym, ap, ◌∙◌, subst, inl, inr, arith, zero-add}
+use Rattle.std.proofs.Common.{◌≡◌, ℕ, zero, suc, ◌+◌, ◌-◌, ◌≤◌, ◌<◌, Bool, true, false, ◌&&◌, ◌||◌, List, [], ◌∷◌, ◌++◌, map, length, get_or, Some, refl, sym, ap, ◌∙◌, subst, inl, inr, arith, zero-add}
 use Rattle.std.specs.Prelude.{Contains, flat_map, slice_get}
 use Rattle.std.specs.List.{AllByRecursion, enumerate_from, list_any, list_all}
 use Rattle.std.proofs.lemmas.Bool.{cases_Bool, and_parts}
@@ -95,3 +95,15 @@ enumerated xs e c =
     let is : (0 + c.0, get_or xs c.0 e.1) ≡ e = sym (get_or-enumerate_from 0 xs c.0 e within) ∙ c.2 in
     let place : e.0 ≡ c.0 = sym (ap (λ (d : ℕ × _). d.0) is) ∙ zero-add c.0 in
     rw place (slice_get_read xs (length xs) c.0 e.1 refl within (sym (ap (λ (d : ℕ × _). d.1) is)))
+
+-- an element of two lists end to end
+
+pub front_get : {X : Type 0} (xs ys : List X) (i : ℕ) (x : X) → slice_get xs i ≡ Some x → slice_get (xs ++ ys) i ≡ Some x
+front_get [] ys i x is = cc
+front_get (y ∷ xs) ys zero x is = is
+front_get (y ∷ xs) ys (suc i) x is = front_get xs ys i x is
+
+pub back_get : {X : Type 0} (xs ys : List X) (i : ℕ) → length xs ≤ i → slice_get (xs ++ ys) i ≡ slice_get ys (i - length xs)
+back_get [] ys i le = let same : i ≡ i - 0 = omega arith in ap (slice_get ys) same
+back_get (x ∷ xs) ys zero le = absurd (omega arith)
+back_get (x ∷ xs) ys (suc i) le = let same : i - length xs ≡ suc i - suc (length xs) = omega arith in back_get xs ys i (omega arith) ∙ ap (slice_get ys) same

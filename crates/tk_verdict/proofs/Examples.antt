@@ -4,18 +4,20 @@ use Rattle.tk_types.specs.declared.value.Param.{Param}
 use Rattle.tk_types.specs.declared.value.Value.TheVariants.{Str}
 use Rattle.tk_types.specs.declared.run.Child.{Child}
 use Rattle.tk_types.specs.declared.run.Facts.{Facts}
-use Rattle.tk_types.specs.declared.run.Outcome.TheVariants.{Succeeded}
+use Rattle.tk_types.specs.declared.run.Outcome.{Outcome}
+use Rattle.tk_types.specs.declared.run.Outcome.TheVariants.{Succeeded, Lost}
 use Rattle.tk_types.specs.declared.run.RunSpec.{RunSpec}
 use Rattle.tk_types.specs.declared.run.Start.TheVariants.{Ready as Startable}
 use Rattle.tk_types.specs.declared.run.Stop.{Stop}
-use Rattle.tk_types.specs.declared.run.Stop.TheVariants.{Failure}
+use Rattle.tk_types.specs.declared.run.Stop.TheVariants.{Failure, Cancelled}
 use Rattle.tk_types.specs.declared.task.Step.{Step}
 use Rattle.tk_types.specs.declared.task.TaskBody.{TaskBody}
 use Rattle.tk_types.specs.declared.task.TaskSpec.{TaskSpec}
 use Rattle.tk_types.specs.declared.task.TaskSource.TheVariants.{Named}
 use Rattle.tk_types.specs.declared.task.PipelineTask.{PipelineTask}
+use Rattle.tk_types.specs.declared.task.When.{When as Guard}
 use Rattle.tk_types.specs.declared.verdict.SkipReason.TheVariants.{Broken, When, Stopped}
-use Rattle.tk_types.specs.declared.verdict.Verdict.TheVariants.{Ran, Skipped, Runs, Ready, Wrong}
+use Rattle.tk_types.specs.declared.verdict.Verdict.TheVariants.{Ran, Skipped, Runs, Ready, Waits, Wrong}
 use Rattle.tk_graph.specs.Results.{text_results}
 use Rattle.tk_verdict.specs.Labels.{labels_of, bindings_at}
 
@@ -102,20 +104,60 @@ guarded_then : labels_of (behind (ended 0 [] ∷ [])) ≡ Ran ∷ Skipped When �
 unfolding text_results
 guarded_then = refl
 
--- Where two tasks have one name, what the rules give a third one changes.
+-- An outcome that changed would take a good parent away.
 
-abbrev same_names : Child → Facts
-same_names child =
-    run (task (codes "a") [] [] ∷ task (codes "b") (with_text (codes "$(tasks.a.results.x)")) [] ∷ []) (task (codes "a") [] [] ∷ task (codes "a") [] [] ∷ []) []
+abbrev after_a : Outcome → Facts
+after_a outcome = run (task (codes "a") [] [] ∷ task (codes "b") [] (codes "a" ∷ []) ∷ []) [] [] (record (runs 0) { outcome = Some outcome } ∷ [])
+
+good_before : labels_of (after_a (Succeeded [])) ≡ Ran ∷ Ready ∷ []
+unfolding text_results
+good_before = refl
+
+bad_after : labels_of (after_a Lost) ≡ Ran ∷ Waits ∷ []
+unfolding text_results
+bad_after = refl
+
+-- A stop in front of the others would change the reason.
+
+stopped_again : labels_of (one (Cancelled ∷ Failure ∷ []) []) ≡ Skipped (Stopped Cancelled) ∷ []
+stopped_again = refl
+
+-- A task of `finally` that is done keeps its label only where all of `tasks` are done too.
+
+abbrev early_final : List Child → Facts
+early_final children = run (task (codes "a") [] [] ∷ []) (guarded (task (codes "f") [] []) ∷ []) [] (ended 1 [] ∷ children)
+
+ran_first : labels_of (early_final (runs 0 ∷ [])) ≡ Runs ∷ Ran ∷ []
+unfolding text_results
+ran_first = refl
+
+wrong_then : labels_of (early_final (ended 0 [] ∷ [])) ≡ Ran ∷ Wrong ∷ []
+unfolding text_results
+wrong_then = refl
+
+-- Where two tasks have one name, the value of a result changes: a task that was Ready is skipped, or one that was skipped is Ready.
+
+abbrev same_names : List ℕ → Child → Facts
+same_names wanted child =
+    let guard : Guard = record { input = codes "$(tasks.a.results.x)"; is_member = true; values = wanted ∷ [] } in
+    run (task (codes "a") [] [] ∷ record (task (codes "b") [] []) { when = guard ∷ [] } ∷ []) (task (codes "a") [] [] ∷ task (codes "a") [] [] ∷ []) []
     (record (runs 0) { outcome = Some (Succeeded []) } ∷ child ∷ ended 3 (codes "1") ∷ [])
 
-bound_before : bindings_at (same_names (runs 2)) (labels_of (same_names (runs 2))) 1 ≡ Some (record { params = with_text (codes "1") } ∷ [])
+ready_with_one : labels_of (same_names (codes "1") (runs 2)) ≡ Ran ∷ Ready ∷ Runs ∷ Ran ∷ []
 unfolding text_results
-bound_before = refl
+ready_with_one = refl
 
-bound_after : bindings_at (same_names (ended 2 (codes "2"))) (labels_of (same_names (ended 2 (codes "2")))) 1 ≡ Some (record { params = with_text (codes "2") } ∷ [])
+skipped_with_two : labels_of (same_names (codes "1") (ended 2 (codes "2"))) ≡ Ran ∷ Skipped When ∷ Ran ∷ Ran ∷ []
 unfolding text_results
-bound_after = refl
+skipped_with_two = refl
+
+skipped_with_one : labels_of (same_names (codes "2") (runs 2)) ≡ Ran ∷ Skipped When ∷ Runs ∷ Ran ∷ []
+unfolding text_results
+skipped_with_one = refl
+
+ready_with_two : labels_of (same_names (codes "2") (ended 2 (codes "2"))) ≡ Ran ∷ Ready ∷ Ran ∷ Ran ∷ []
+unfolding text_results
+ready_with_two = refl
 
 -- Where a task refers to a result of a task of `finally`, its label changes though it is done and has no ancestors.
 
@@ -143,10 +185,17 @@ unread_after : labels_of (unread (ended 0 (codes "1") ∷ [])) ≡ Ran ∷ Ready
 unfolding text_results
 unread_after = refl
 
--- A child of another index makes its task Wrong; the run neither goes on nor is over.
+-- A run doesn't go on while a child runs, where a task is Wrong, as one with a child of another index is, or where tasks wait for each other.
+
+running : labels_of (one [] (runs 0 ∷ [])) ≡ Runs ∷ []
+running = refl
 
 wrong_child : labels_of (one [] (record (ended 0 []) { index = 5 } ∷ [])) ≡ Wrong ∷ []
 wrong_child = refl
+
+circle : labels_of (run (task (codes "a") [] (codes "b" ∷ []) ∷ task (codes "b") [] (codes "a" ∷ []) ∷ []) [] [] []) ≡ Waits ∷ Waits ∷ []
+unfolding text_results
+circle = refl
 
 -- A task that isn't Ready and gets a child loses its label.
 

@@ -1,14 +1,15 @@
 -- What the rules give is right: a task that has just that isn't Wrong, and it is at least one binding, and not too many.
-use Rattle.std.proofs.Common.{◌≡◌, ◌≢◌, ℕ, zero, suc, ◌+◌, ◌-◌, ◌*◌, ◌<◌, ◌≤◌, Bool, true, false, ◌||◌, not, List, [], ◌∷◌, ◌++◌, map, length, Option, Some, None, refl, sym, ap, ◌∙◌, arith}
-use Rattle.std.specs.Prelude.{Contains, if◌then◌else◌, option_map, option_and_then, filter, nat_le}
+use Rattle.std.proofs.Common.{◌≡◌, ◌≢◌, ℕ, zero, suc, ◌+◌, ◌-◌, ◌*◌, ◌<◌, ◌≤◌, Bool, true, false, ◌||◌, not, List, [], ◌∷◌, ◌++◌, map, length, Option, Some, None, refl, sym, ap, ◌∙◌, subst, arith}
+use Rattle.std.specs.Prelude.{Contains, if◌then◌else◌, slice_get, option_map, option_and_then, filter, nat_le}
 use Rattle.std.specs.List.{list_any, list_all, range_with_len}
 use Rattle.std.specs.Option.{option_map_or}
 use Rattle.std.proofs.lemmas.Bool.{or_parts, leb-true, le-leb}
-use Rattle.std.proofs.lemmas.List.{length-map}
+use Rattle.std.proofs.lemmas.List.{length-map, append-nil}
 use Rattle.std.proofs.lemmas.List.Elements.{Contains-append_left, Contains-append_right}
 use Rattle.std.proofs.lemmas.List.FromFn.{length-map-range_with_len}
 use Rattle.std.proofs.lemmas.Option.{slice_get_within, same_Some, cond_some}
 use Rattle.std.proofs.lemmas.Slice.Eq.{bytes_eq-Decides}
+use Rattle.tk_types.specs.declared.value.Pair.{Pair}
 use Rattle.tk_types.specs.declared.value.Param.{Param}
 use Rattle.tk_types.specs.declared.task.Matrix.{Matrix}
 use Rattle.tk_types.specs.declared.task.PipelineTask.{PipelineTask}
@@ -28,16 +29,17 @@ use Rattle.tk_matrix.specs.Include.{stands_alone}
 use Rattle.tk_matrix.specs.Combinations.{has_empty_list, combination_count, combination, combinations}
 use Rattle.tk_matrix.specs.Task.{task_combination_count, task_combinations}
 use Rattle.tk_graph.specs.Parents.{IsAcyclic}
-use Rattle.tk_verdict.specs.Available.{with_child, by_index}
+use Rattle.tk_verdict.specs.Available.{with_child, by_index, available_results}
 use Rattle.tk_verdict.specs.Bindings.{few_combinations, combinations_in, is_broken, is_refused, has_no_combination}
 use Rattle.tk_verdict.specs.Facts.{all_tasks, task_total, children_of, is_running, first_stop, first_late_stop}
-use Rattle.tk_verdict.specs.Gives.{label_of, first_labels, Gives, to_task, to_final, HasExactly, HasEntries, has_entry}
+use Rattle.tk_verdict.specs.Gives.{label_of, first_labels, Gives, to_task, to_final, HasExactly, HasEntries, has_entry, first_env}
 use Rattle.tk_verdict.specs.Labels.{labels_of, labelled_parents, has_exact_children, label_by, bindings_in}
 use Rattle.tk_verdict.specs.Rows.{is_good_parent, own_rows, lacks_result, lacks_any_result, task_row, finally_row}
 use Rattle.tk_verdict.specs.Verdict.{blocks}
-use Rattle.tk_verdict.specs.Words.{task_env, finally_env}
-use Rattle.tk_verdict.proofs.Elements.{all_at}
+use Rattle.tk_verdict.specs.Words.{task_words, task_env, env_with, finally_env, status_words}
+use Rattle.tk_verdict.proofs.Elements.{all_at, front_get, back_get}
 use Rattle.tk_verdict.proofs.GoodStays.{task_in}
+use Rattle.tk_verdict.proofs.HasValues.{same_matrix}
 use Rattle.tk_verdict.proofs.Lines.{next_by, none_not_wrong, task_label, final_label}
 
 abbrev bind : List Param → Binding
@@ -220,6 +222,35 @@ gives_place facts place bindings (to_final {task} g) =
 pub gives_within : (facts : Facts) (place : ℕ) (bindings : List Binding) → Gives facts place bindings → length bindings ≤ 256
 gives_within facts place bindings (to_task {task} g) = let c = counted (task_env facts task) task bindings g.bound in rw c.counted c.few
 gives_within facts place bindings (to_final {task} g) = let c = counted (finally_env facts (first_labels facts) task) task bindings g.bound in rw c.counted c.few
+
+-- as many as the task's matrix counts, where it has a value before any child ended
+
+counted_as : (env : Env) (task : PipelineTask) (bindings : List Binding) (matrix : Option Matrix) → bindings_in env task ≡ Some bindings → matrix_in env task.matrix ≡ Some matrix → length bindings ≡ task_combination_count matrix
+counted_as env task bindings matrix bound is =
+    let c = counted env task bindings bound in
+    c.counted ∙ ap task_combination_count (same_Some c.matrix matrix (sym c.made ∙ is))
+
+task_counted : (facts : Facts) (task : PipelineTask) (bindings : List Binding) (matrix : Option Matrix) → bindings_in (task_env facts task) task ≡ Some bindings → matrix_in (first_env facts.spec task) task.matrix ≡ Some matrix
+    → length bindings ≡ task_combination_count matrix
+task_counted facts task bindings matrix bound is =
+    let seen : matrix_in (env_with facts (task_words facts.spec task ++ [])) task.matrix ≡ Some matrix = same_matrix facts.spec.params (task_words facts.spec task) [] (available_results facts) task.matrix matrix is in
+    counted_as (task_env facts task) task bindings matrix bound
+    (subst (λ (words : List Pair). matrix_in (env_with facts words) task.matrix ≡ Some matrix) (append-nil (task_words facts.spec task)) seen)
+
+final_counted : (facts : Facts) (task : PipelineTask) (bindings : List Binding) (matrix : Option Matrix) → bindings_in (finally_env facts (first_labels facts) task) task ≡ Some bindings
+    → matrix_in (first_env facts.spec task) task.matrix ≡ Some matrix → length bindings ≡ task_combination_count matrix
+final_counted facts task bindings matrix bound is =
+    counted_as (finally_env facts (first_labels facts) task) task bindings matrix bound
+    (same_matrix facts.spec.params (task_words facts.spec task) (status_words facts (first_labels facts)) (available_results facts) task.matrix matrix is)
+
+pub gives_counted : (facts : Facts) (place : ℕ) (task : PipelineTask) (bindings : List Binding) (matrix : Option Matrix) → slice_get (all_tasks facts) place ≡ Some task
+    → matrix_in (first_env facts.spec task) task.matrix ≡ Some matrix → Gives facts place bindings → length bindings ≡ task_combination_count matrix
+gives_counted facts place task bindings matrix at is (to_task {task = found} g) =
+    let same : found ≡ task = same_Some found task (sym (front_get facts.spec.tasks facts.spec.finally place found g.of_tasks) ∙ at) in
+    task_counted facts found bindings matrix g.bound (subst (λ (t : PipelineTask). matrix_in (first_env facts.spec t) t.matrix ≡ Some matrix) (sym same) is)
+gives_counted facts place task bindings matrix at is (to_final {task = found} g) =
+    let same : found ≡ task = same_Some found task (sym g.of_finally ∙ (sym (back_get facts.spec.tasks facts.spec.finally place g.past) ∙ at)) in
+    final_counted facts found bindings matrix g.bound (subst (λ (t : PipelineTask). matrix_in (first_env facts.spec t) t.matrix ≡ Some matrix) (sym same) is)
 
 -- children in order of index are so already
 

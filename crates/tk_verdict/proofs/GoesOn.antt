@@ -1,12 +1,12 @@
 -- A run has a condition, gives its Ready tasks bindings, and goes on once its children ended.
-use Rattle.std.proofs.Common.{◌≡◌, ◌≢◌, ℕ, zero, suc, ◌-◌, ◌<◌, ◌≤◌, Bool, true, false, cond, ◌||◌, not, List, [], ◌∷◌, ◌++◌, map, length, get_or, Option, Some, None, refl, sym, ap, ◌∙◌, subst, inl, inr, ◌⊎◌, arith}
-use Rattle.std.specs.Prelude.{◌↔◌, Contains, All, IsSome, if◌then◌else◌, is_none, is_some, slice_get, slice_index, option_map, filter, find, nat_eq, nat_le}
+use Rattle.std.proofs.Common.{◌≡◌, ◌≢◌, ℕ, zero, suc, ◌-◌, ◌<◌, ◌≤◌, Bool, true, false, cond, ◌||◌, not, List, [], ◌∷◌, map, length, get_or, Option, Some, None, refl, sym, ap, ◌∙◌, subst, inl, inr, ◌⊎◌, arith}
+use Rattle.std.specs.Prelude.{◌↔◌, Contains, All, IsSome, if◌then◌else◌, is_none, is_some, slice_get, slice_index, option_and_then, option_map, filter, find, nat_eq, nat_le}
 use Rattle.std.specs.List.{list_any, list_all, AllByRecursion}
 use Rattle.std.specs.Option.{option_or, option_map_or}
 use Rattle.std.proofs.lemmas.Bool.{cases_Bool, cases_lt, or_parts, and_from, false_from_ne_true, leb-false, eqb-true}
 use Rattle.std.proofs.lemmas.List.{get_or-take, length-take-le}
 use Rattle.std.proofs.lemmas.List.Elements.{All-nil, All-cons, All-head, All-tail, All-filter}
-use Rattle.std.proofs.lemmas.Option.{slice_get_cases}
+use Rattle.std.proofs.lemmas.Option.{slice_get_cases, slice_get_past}
 use Rattle.tk_types.specs.declared.value.Param.{Param}
 use Rattle.tk_types.specs.declared.task.PipelineTask.{PipelineTask}
 use Rattle.tk_types.specs.declared.run.Facts.{Facts}
@@ -28,12 +28,12 @@ use Rattle.tk_verdict.specs.Bindings.{fits_at, guards_in, combinations_in, is_br
 use Rattle.tk_verdict.specs.Condition.{condition_of, finished, false_with}
 use Rattle.tk_verdict.specs.Facts.{all_tasks, task_total, children_of, is_running, has_ended, all_ended, is_good, level_of, first_stop, first_late_stop}
 use Rattle.tk_verdict.specs.Gives.{label_of, first_labels, Gives, to_task, to_final}
-use Rattle.tk_verdict.specs.Labels.{labels_of, labelled_parents, label_by}
+use Rattle.tk_verdict.specs.Labels.{labels_of, labelled_parents, label_by, bindings_in, bindings_at, ready_bindings}
 use Rattle.tk_verdict.specs.Progress.{AllDone, SomeReady, HasBadChild, IsFailing}
 use Rattle.tk_verdict.specs.Rows.{is_good_parent, own_rows, lacks_result, task_row, finally_row}
 use Rattle.tk_verdict.specs.Verdict.{is_done, is_ready, blocks}
 use Rattle.tk_verdict.specs.Words.{task_env, finally_env}
-use Rattle.tk_verdict.proofs.Elements.{same_default, all_at, any_at, map_in, first_in, next_in}
+use Rattle.tk_verdict.proofs.Elements.{front_get, same_default, all_at, any_at, map_in, first_in, next_in}
 use Rattle.tk_verdict.proofs.GivenRight.{task_none, final_none, NoOwnRow, behind_none}
 use Rattle.tk_verdict.proofs.Lines.{next_by, ready_parts, waits_parts, skipped_parts, label_shape, labels_length, past_waits, task_label, final_label}
 use Rattle.tk_verdict.proofs.Locality.{parents_within}
@@ -108,17 +108,49 @@ bound_by facts env place task row = bound_if (is_none (guards_in env task)) (lis
 abbrev binding : List Param → Binding
 binding params = record { params = params }
 
-pub ready_gives : (facts : Facts) (place : ℕ) → IsAcyclic facts.spec.tasks → label_of facts place ≡ Ready → (bindings : List Binding) × Gives facts place bindings
-ready_gives facts place acyclic ready = by_place (place_of facts place)
+-- the bindings that are computed are given
+pub record IsGiven (facts : Facts) (place : ℕ) : Type 0 where
+  pub bindings : List Binding
+  pub computed : ready_bindings facts (labels_of facts) place ≡ Some bindings
+  pub given : Gives facts place bindings
+
+ready_only : (v : Verdict) (o : Option (List Binding)) → v ≡ Ready → (if is_ready v then o else None) ≡ o
+ready_only v o is = rw is refl
+
+bindings_task : (facts : Facts) (place : ℕ) (task : PipelineTask) → slice_get facts.spec.tasks place ≡ Some task → bindings_at facts (labels_of facts) place ≡ bindings_in (task_env facts task) task
+bindings_task facts place task is =
+    ap (λ (found : Option PipelineTask).
+    elim found [
+      | Some t ↦ bindings_in (task_env facts t) t
+      | None ↦ option_and_then (λ (t : PipelineTask). bindings_in (finally_env facts (first_labels facts) t) t) (slice_get facts.spec.finally (place - length facts.spec.tasks))
+    ])
+    is
+
+bindings_final : (facts : Facts) (place : ℕ) (task : PipelineTask) → slice_get facts.spec.tasks place ≡ None → slice_get facts.spec.finally (place - length facts.spec.tasks) ≡ Some task
+    → bindings_at facts (labels_of facts) place ≡ bindings_in (finally_env facts (first_labels facts) task) task
+bindings_final facts place task none is =
+    λ i.
+    elim (none i) [
+      | Some t ↦ bindings_in (task_env facts t) t
+      | None ↦ option_and_then (λ (t : PipelineTask). bindings_in (finally_env facts (first_labels facts) t) t) (is i)
+    ]
+
+given : (facts : Facts) (place : ℕ) → IsAcyclic facts.spec.tasks → label_of facts place ≡ Ready → IsGiven facts place
+given facts place acyclic ready = by_place (place_of facts place)
   where
-    by_place : Place facts place → (bindings : List Binding) × Gives facts place bindings
+    by_place : Place facts place → IsGiven facts place
     by_place (of_tasks task within is) =
         let env = task_env facts task in
         let ps = labelled_parents facts (labels_of facts) place in
         let line = task_label facts acyclic place task is in
         let parts = ready_parts (children_of facts place) (combinations_in env task) (task_row facts ps env place task) (first_stop facts) (list_all (is_good_parent facts) ps) (sym line ∙ ready) in
         let made = bound_by facts env place task (task_none facts ps env place task parts.3 parts.1) in
-        (map binding made.0, to_task (record { of_tasks = is; good = parts.3; no_row = parts.1; bound = ap (option_map (map binding)) made.1 }))
+        let bound : bindings_in env task ≡ Some (map binding made.0) = ap (option_map (map binding)) made.1 in
+        record {
+          bindings = map binding made.0;
+          computed = ready_only (label_of facts place) (bindings_at facts (labels_of facts) place) ready ∙ (bindings_task facts place task is ∙ bound);
+          given = to_task (record { of_tasks = is; good = parts.3; no_row = parts.1; bound = bound });
+        }
     by_place (of_finally task past is) =
         let done = ready_finished facts acyclic place task past is ready in
         let env = finally_env facts (first_labels facts) task in
@@ -126,8 +158,18 @@ ready_gives facts place acyclic ready = by_place (place_of facts place)
         = final_label facts acyclic place task past is ∙ rw done refl in
         let parts = ready_parts (children_of facts place) (combinations_in env task) (finally_row facts env place task) (first_late_stop facts) true (sym line ∙ ready) in
         let made = bound_by facts env place task (final_none facts env place task parts.1) in
-        (map binding made.0, to_final (record { past = past; of_finally = is; done = done; no_row = parts.1; bound = ap (option_map (map binding)) made.1 }))
+        let bound : bindings_in env task ≡ Some (map binding made.0) = ap (option_map (map binding)) made.1 in
+        let none : slice_get facts.spec.tasks place ≡ None = slice_get_past facts.spec.tasks place past in
+        record {
+          bindings = map binding made.0;
+          computed = ready_only (label_of facts place) (bindings_at facts (labels_of facts) place) ready ∙ (bindings_final facts place task none is ∙ bound);
+          given = to_final (record { past = past; of_finally = is; done = done; no_row = parts.1; bound = bound });
+        }
     by_place (beyond past) = let waits = past_waits facts place past in cc
+
+pub ready_gives : (facts : Facts) (place : ℕ) → IsAcyclic facts.spec.tasks → label_of facts place ≡ Ready
+    → (bindings : List Binding) × (ready_bindings facts (labels_of facts) place ≡ Some bindings) × Gives facts place bindings
+ready_gives facts place acyclic ready = let g = given facts place acyclic ready in (g.bindings, g.computed, g.given)
 
 -- no stop is in its way
 
@@ -314,14 +356,6 @@ module _ (facts : Facts) (acyclic : IsAcyclic facts.spec.tasks) (ended : All (λ
         bad = outcome.2;
       }
 
-  of_all : (q : ℕ) (parent : PipelineTask) → slice_get facts.spec.tasks q ≡ Some parent → slice_get (all_tasks facts) q ≡ Some parent
-  of_all q parent is = in_front facts.spec.tasks facts.spec.finally q parent is
-    where
-      in_front : {X : Type 0} (xs ys : List X) (i : ℕ) (x : X) → slice_get xs i ≡ Some x → slice_get (xs ++ ys) i ≡ Some x
-      in_front [] ys i x is = cc
-      in_front (y ∷ xs) ys zero x is = is
-      in_front (y ∷ xs) ys (suc i) x is = in_front xs ys i x is
-
   -- a parent that isn't good, by its label
   by_label : (q : ℕ) (parent : PipelineTask) (v : Verdict) → q < count → slice_get facts.spec.tasks q ≡ Some parent → label_of facts q ≡ v → is_good_parent facts (q, v) ≡ false → blocks v ≡ false → first_stop facts ≡ None
       → HasBadChild facts ⊎ (v ≡ Waits)
@@ -331,7 +365,7 @@ module _ (facts : Facts) (acyclic : IsAcyclic facts.spec.tasks) (ended : All (λ
   by_label q parent Wrong lt is label bad quiet none = absurd (right q (omega arith) label)
   by_label q parent Ran lt is label bad quiet none =
       let here = or_parts (option_map_or (λ (task : PipelineTask). all_ended (is_good task) (children_of facts q)) (slice_get (all_tasks facts) q) false) false bad in
-      inl (bad_child q parent lt is label (sym (ap (λ (o : Option PipelineTask). option_map_or (λ (task : PipelineTask). all_ended (is_good task) (children_of facts q)) o false) (of_all q parent is)) ∙ here.0))
+      inl (bad_child q parent lt is label (sym (ap (λ (o : Option PipelineTask). option_map_or (λ (task : PipelineTask). all_ended (is_good task) (children_of facts q)) o false) (front_get facts.spec.tasks facts.spec.finally q parent is)) ∙ here.0))
   by_label q parent (Skipped When) lt is label bad quiet none =
       let skipped = (or_parts (option_map_or (λ (task : PipelineTask). all_ended (is_good task) (children_of facts q)) (slice_get (all_tasks facts) q) false) true bad).1 in
       cc

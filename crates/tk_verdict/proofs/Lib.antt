@@ -8,6 +8,7 @@ pub mod GivenRight
 pub mod GoesOn
 pub mod GoodStays
 pub mod GroupFacts
+pub mod HasValues
 pub mod Indexes
 pub mod LabelParts
 pub mod LabelStays

@@ -27,11 +27,11 @@ use Rattle.tk_verdict.specs.Bindings.{guard_in, guards_in, few_combinations, com
 use Rattle.tk_verdict.proofs.Elements.{each_implies, each_append, each_flat_map, each_map, map_same, first_in, next_in}
 
 -- The two environments give a reference the same value; so each reference of a piece, of a text and of some texts.
-abbrev SamePiece : Env → Env → Piece → Type 0
+abbrev pub SamePiece : Env → Env → Piece → Type 0
 SamePiece a b (Plain text) = Unit {0}
 SamePiece a b (Ref r) = reference_value a r ≡ reference_value b r
 
-abbrev SamePieces : Env → Env → List Piece → Type 0
+abbrev pub SamePieces : Env → Env → List Piece → Type 0
 SamePieces a b pieces = AllByRecursion (SamePiece a b) pieces
 
 abbrev pub SameText : Env → Env → List ℕ → Type 0
@@ -140,7 +140,7 @@ module _ (a b : Env) where
       (each_implies (λ (e : List Param). SameTexts a b (params_texts e)) (λ e. params_in a e ≡ params_in b e) params_same entries
       (each_flat_map (SameText a b) params_texts entries same)))
 
-  matrix_same : (matrix : Option Matrix) → SameTexts a b (matrix_texts matrix) → matrix_in a matrix ≡ matrix_in b matrix
+  pub matrix_same : (matrix : Option Matrix) → SameTexts a b (matrix_texts matrix) → matrix_in a matrix ≡ matrix_in b matrix
   matrix_same None same = refl
   matrix_same (Some matrix) same =
       let parts = each_append (SameText a b) (params_texts matrix.params) (flat_map params_texts matrix.include) same in

@@ -1,10 +1,12 @@
 //! What stays when the facts of a run move on by a step: more of its children end, a stop is recorded, or a task that
 //! is Ready gets children.
 
-ghost use Rattle.std.specs.Prelude.{◌≡◌, ◌≢◌, ℕ, List};
+ghost use Rattle.std.specs.Prelude.{◌≡◌, ◌≢◌, ◌<◌, ℕ, List, Contains, length};
 ghost use Rattle.tk_types.specs.declared.run.Facts.{Facts};
+ghost use Rattle.tk_types.specs.declared.task.PipelineTask.{PipelineTask};
 ghost use Rattle.tk_types.specs.declared.verdict.Binding.{Binding};
 ghost use Rattle.tk_types.specs.declared.verdict.Verdict.TheVariants.{Ready, Wrong};
+ghost use Rattle.tk_graph.specs.Parents.{parents};
 ghost use Rattle.tk_verdict.specs.Gives.{label_of, Gives, HasNoChildren};
 ghost use Rattle.tk_verdict.specs.Moves.{GainsOutcomes, Moves, IsSettled};
 ghost use Rattle.tk_verdict.specs.WellFormed.{IsWellFormed};
@@ -15,6 +17,11 @@ use tk_vars::laws::one_bad_offset;
 pub fn without_children()
     ensures ready { (facts : Facts) (place : ℕ) → label_of facts place ≡ Ready → HasNoChildren facts place }
     ensures not_wrong { (facts : Facts) (place : ℕ) → HasNoChildren facts place → label_of facts place ≢ Wrong }
+{}
+
+/// The parents of a task are tasks of `tasks`.
+pub fn parents_first()
+    ensures { (tasks : List PipelineTask) (place parent : ℕ) → Contains (parents tasks place) parent → parent < length tasks }
 {}
 
 /// A task that is Ready stays so while children end.

@@ -1,4 +1,4 @@
-use Rattle.tk_verdict.proofs.GivenRight.{gives_place, gives_some, gives_within}
+use Rattle.tk_verdict.proofs.GivenRight.{gives_place, gives_some, gives_within, gives_counted}
 use Rattle.tk_verdict.proofs.giving.gives_some.Goals as goal
 
 pub returns-clause-exists : goal.returns-clause-exists
@@ -9,3 +9,6 @@ returns-clause-some c = gives_some
 
 pub returns-clause-few : goal.returns-clause-few
 returns-clause-few c = gives_within
+
+pub returns-clause-counted : goal.returns-clause-counted
+returns-clause-counted c = gives_counted
