@@ -1,5 +1,5 @@
 -- Facts that show what fails without a premise of the laws.
-use Rattle.std.specs.Prelude.{◌≡◌, refl, ℕ, List, [], ◌∷◌, ◌++◌, Some, None, true, false, codes}
+use Rattle.std.specs.Prelude.{◌≡◌, ◌≢◌, ◌<◌, refl, ℕ, zero, suc, Contains, IsTrue, slice_index, slice_index_or, bytes_eq, List, [], ◌∷◌, ◌++◌, Some, None, true, false, codes}
 use Rattle.tk_types.specs.declared.value.Param.{Param}
 use Rattle.tk_types.specs.declared.value.Value.TheVariants.{Str}
 use Rattle.tk_types.specs.declared.run.Child.{Child}
@@ -19,7 +19,16 @@ use Rattle.tk_types.specs.declared.task.When.{When as Guard}
 use Rattle.tk_types.specs.declared.verdict.SkipReason.TheVariants.{Broken, When, Stopped}
 use Rattle.tk_types.specs.declared.verdict.Verdict.TheVariants.{Ran, Skipped, Runs, Ready, Waits, Wrong}
 use Rattle.tk_graph.specs.Results.{text_results}
+use Rattle.tk_verdict.specs.Gives.{Gives, to_task}
 use Rattle.tk_verdict.specs.Labels.{labels_of, bindings_at}
+use Rattle.tk_verdict.specs.Moves.{Moves, by_outcomes}
+use Rattle.tk_verdict.specs.WellFormed.{IsWellFormed}
+use Rattle.std.specs.List.{list_all}
+use Rattle.tk_graph.specs.Parents.{parents, parent_names}
+use Rattle.tk_graph.specs.Unknown.{is_known}
+use Rattle.tk_verdict.specs.Facts.{all_tasks}
+use Rattle.tk_vars.specs.Reading.{HasReading}
+use Rattle.std.proofs.Common.{ap, subst, arith}
 
 -- a body that runs `true`, for each task
 abbrev body : TaskBody
@@ -206,3 +215,57 @@ skipped_before = refl
 wrong_after : labels_of (run (guarded (task (codes "a") [] []) ∷ []) [] [] (ended 0 [] ∷ [])) ≡ Wrong ∷ []
 unfolding text_results
 wrong_after = refl
+
+-- A run for which the laws speak: `a`, and `b` behind it. It is well formed, `a` is given one binding, and it moves on.
+
+abbrev chain : List Child → Facts
+chain = run (task (codes "a") [] [] ∷ task (codes "b") [] (codes "a" ∷ []) ∷ []) [] []
+
+names_apart : (i j : ℕ) (d : PipelineTask) → i < j → j < 2 → (slice_index_or (all_tasks (chain [])) i d).name ≢ (slice_index_or (all_tasks (chain [])) j d).name
+names_apart zero (suc zero) d lt within = λ same. let differ : true ≡ false = ap (λ (name : List ℕ). bytes_eq name (codes "a")) same in cc (differ)
+names_apart zero zero d lt within = absurd (omega arith)
+names_apart zero (suc (suc j)) d lt within = absurd (omega arith)
+names_apart (suc i) zero d lt within = absurd (omega arith)
+names_apart (suc i) (suc j) d lt within = absurd (omega arith)
+
+known : (k : ℕ) (d : PipelineTask) → k < 2 → IsTrue (list_all (is_known (chain []).spec.tasks) (parent_names (slice_index_or (all_tasks (chain [])) k d)))
+unfolding text_results
+known zero d lt = refl
+known (suc zero) d lt = refl
+known (suc (suc k)) d lt = absurd (omega arith)
+
+rises : (parent place : ℕ) → Contains (parents (chain []).spec.tasks place) parent → slice_index (0 ∷ 1 ∷ []) parent < slice_index (0 ∷ 1 ∷ []) place
+unfolding text_results
+rises parent zero c = absurd (omega (arith, c.1))
+rises parent (suc zero) (zero, lt, is) = subst (λ p. slice_index (0 ∷ 1 ∷ []) p < 1) is (omega arith)
+rises parent (suc zero) (suc k, lt, is) = absurd (omega (arith, lt))
+rises parent (suc (suc place)) c = absurd (omega (arith, c.1))
+
+plain_text : HasReading (codes "true")
+plain_text = record { joined = refl; allowed = refl; apart = refl; alone = refl }
+
+reads : (k : ℕ) (d : List ℕ) → k < 2 → HasReading (slice_index_or (codes "true" ∷ codes "true" ∷ []) k d)
+reads zero d lt = plain_text
+reads (suc zero) d lt = plain_text
+reads (suc (suc k)) d lt = absurd (omega arith)
+
+is_well_formed : IsWellFormed (chain [])
+unfolding text_results
+is_well_formed =
+    record {
+      few_tasks = omega arith;
+      children_differ = λ i j d lt within. absurd (omega arith);
+      children_exist = refl;
+      names_differ = names_apart;
+      one_body_each = refl;
+      parents_exist = known;
+      acyclic = (0 ∷ 1 ∷ [], record { count = refl; rising = rises });
+      readable = reads;
+    }
+
+given_first : Gives (chain []) 0 (record { params = [] } ∷ [])
+unfolding text_results
+given_first = to_task (record { of_tasks = refl; good = refl; no_row = refl; bound = refl })
+
+moves_on : Moves (chain (runs 0 ∷ [])) (chain (ended 0 [] ∷ []))
+moves_on = by_outcomes (record { spec = refl; stops = refl; children = (record { task = refl; index = refl; outcome = λ outcome is. cc }, tt) })

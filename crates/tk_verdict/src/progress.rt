@@ -19,8 +19,8 @@ pub fn decided()
     ensures { (facts : Facts) → IsSome (condition_of facts (labels_of facts)) ↔ ((facts.spec.start ≢ Startable) ⊎ AllDone facts) }
 {}
 
-/// The rules give a task that is Ready the bindings that `ready_bindings` computes, and no stop is in its way: for a task of `tasks` none is recorded, and
-/// for one of `finally` none of level 3 or 4.
+/// The rules give a task that is Ready the bindings that `ready_bindings` computes, and no stop is in its way: for a
+/// task of `tasks` none is recorded, and for one of `finally` none of level 3 or 4.
 pub fn ready_goes_on()
     ensures given { (facts : Facts) (place : ℕ) → IsAcyclic facts.spec.tasks → label_of facts place ≡ Ready
         → (bindings : List Binding) × (ready_bindings facts (labels_of facts) place ≡ Some bindings) × Gives facts place bindings }
