@@ -168,31 +168,31 @@ ready_with_two : labels_of (same_names (codes "2") (ended 2 (codes "2"))) ≡ Ra
 unfolding text_results
 ready_with_two = refl
 
--- Where a task refers to a result of a task of `finally`, its label changes though it is done and has no ancestors.
+-- Where a task refers to a result of a task of `finally`, its label changes though it is done and has no ancestors. So another task of
+-- `finally` that was Ready waits again. The same where a text without a reading names the task.
 
-abbrev late_parent : List Child → Facts
-late_parent = run (task (codes "a") (with_text (codes "$(tasks.f.results.x)")) [] ∷ []) (task (codes "f") [] [] ∷ []) []
+abbrev late_parent : List ℕ → Child → Facts
+late_parent text child = run (task (codes "a") (with_text text) [] ∷ []) (task (codes "f") [] [] ∷ task (codes "g") [] [] ∷ []) [] (child ∷ [])
 
-broken_before : labels_of (late_parent (runs 1 ∷ [])) ≡ Skipped Broken ∷ Runs ∷ []
+broken_before : labels_of (late_parent (codes "$(tasks.f.results.x)") (runs 1)) ≡ Skipped Broken ∷ Runs ∷ Ready ∷ []
 unfolding text_results
 broken_before = refl
 
-ready_after : labels_of (late_parent (ended 1 (codes "1") ∷ [])) ≡ Ready ∷ Ran ∷ []
+ready_after : labels_of (late_parent (codes "$(tasks.f.results.x)") (ended 1 (codes "1"))) ≡ Ready ∷ Ran ∷ Waits ∷ []
 unfolding text_results
 ready_after = refl
 
--- The same where a text without a reading names the task.
-
-abbrev unread : List Child → Facts
-unread = run (task (codes "a") [] [] ∷ task (codes "b") (with_text (codes "$(tasks['a'].results.x)")) [] ∷ []) [] []
-
-unread_before : labels_of (unread (runs 0 ∷ [])) ≡ Runs ∷ Skipped Broken ∷ []
+unread_before : labels_of (late_parent (codes "$(tasks['f'].results.x)") (runs 1)) ≡ Skipped Broken ∷ Runs ∷ Ready ∷ []
 unfolding text_results
 unread_before = refl
 
-unread_after : labels_of (unread (ended 0 (codes "1") ∷ [])) ≡ Ran ∷ Ready ∷ []
+unread_after : labels_of (late_parent (codes "$(tasks['f'].results.x)") (ended 1 (codes "1"))) ≡ Ready ∷ Ran ∷ Waits ∷ []
 unfolding text_results
 unread_after = refl
+
+unread_names_none : parent_names (task (codes "a") (with_text (codes "$(tasks['f'].results.x)")) []) ≡ []
+unfolding text_results
+unread_names_none = refl
 
 -- A run doesn't go on while a child runs, where a task is Wrong, as one with a child of another index is, or where tasks wait for each other.
 

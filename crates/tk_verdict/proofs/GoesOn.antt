@@ -28,14 +28,14 @@ use Rattle.tk_verdict.specs.Bindings.{fits_at, guards_in, combinations_in, is_br
 use Rattle.tk_verdict.specs.Condition.{condition_of, finished, false_with}
 use Rattle.tk_verdict.specs.Facts.{all_tasks, task_total, children_of, is_running, has_ended, all_ended, is_good, level_of, first_stop, first_late_stop}
 use Rattle.tk_verdict.specs.Gives.{label_of, first_labels, Gives, to_task, to_final}
-use Rattle.tk_verdict.specs.Labels.{labels_of, labelled_parents, label_by, bindings_in, bindings_at, ready_bindings}
+use Rattle.tk_verdict.specs.Labels.{finally_line, labels_of, labelled_parents, label_by, bindings_in, bindings_at, ready_bindings}
 use Rattle.tk_verdict.specs.Progress.{AllDone, SomeReady, HasBadChild, IsFailing}
 use Rattle.tk_verdict.specs.Rows.{is_good_parent, own_rows, lacks_result, task_row, finally_row}
 use Rattle.tk_verdict.specs.Verdict.{is_done, is_ready, blocks}
 use Rattle.tk_verdict.specs.Words.{task_env, finally_env}
 use Rattle.tk_verdict.proofs.Elements.{front_get, same_default, all_at, any_at, map_in, first_in, next_in}
 use Rattle.tk_verdict.proofs.GivenRight.{task_none, final_none, NoOwnRow, behind_none}
-use Rattle.tk_verdict.proofs.Lines.{next_by, ready_parts, waits_parts, skipped_parts, label_shape, labels_length, past_waits, task_label, final_label}
+use Rattle.tk_verdict.proofs.Lines.{next_by, ready_parts, waits_parts, skipped_parts, label_shape, labels_length, past_waits, task_judged, final_judged, task_label, final_label}
 use Rattle.tk_verdict.proofs.Locality.{parents_within}
 use Rattle.tk_verdict.proofs.Steps.{place_of, of_tasks, of_finally, beyond, Place, ready_finished}
 
@@ -185,36 +185,39 @@ not_late (s ∷ stops) is =
       | inr early ↦ All-cons (λ t. level_of t < 3) s stops (leb-false 3 (level_of s) early) (not_late stops (rw early at is))
     ]
 
-pub ready_unstopped : (facts : Facts) (place : ℕ) → IsAcyclic facts.spec.tasks → place < length facts.spec.tasks → label_of facts place ≡ Ready → facts.stops ≡ []
-ready_unstopped facts place acyclic lt ready =
+pub ready_unstopped : (facts : Facts) (place : ℕ) → place < length facts.spec.tasks → label_of facts place ≡ Ready → facts.stops ≡ []
+ready_unstopped facts place lt ready =
     elim (slice_get_cases facts.spec.tasks place).1 [
       | inl found ↦
-          let ps = labelled_parents facts (labels_of facts) place in
-          let line = task_label facts acyclic place found.0 found.2 in
-          let parts = ready_parts (children_of facts place) (combinations_in (task_env facts found.0) found.0) (task_row facts ps (task_env facts found.0) place found.0) (first_stop facts) (list_all (is_good_parent facts) ps) (sym line ∙ ready) in
+          let env = task_env facts found.0 in
+          let judged = task_judged facts place found.0 found.2 in
+          let ps = judged.0 in
+          let parts = ready_parts (children_of facts place) (combinations_in env found.0) (task_row facts ps env place found.0) (first_stop facts) (list_all (is_good_parent facts) ps) (sym judged.1 ∙ ready) in
           no_first facts.stops parts.2
       | inr past ↦ absurd (omega arith)
     ]
 
-pub ready_not_late : (facts : Facts) (place : ℕ) → IsAcyclic facts.spec.tasks → label_of facts place ≡ Ready → All (λ s. level_of s < 3) facts.stops
-ready_not_late facts place acyclic ready = by_place (place_of facts place)
+-- a task of `finally` that is Ready by some labels of `tasks`
+final_not_late : (facts : Facts) (labels : List Verdict) (place : ℕ) (task : PipelineTask) → finally_line facts labels place task ≡ Ready → first_late_stop facts ≡ None
+final_not_late facts labels place task ready =
+    let env = finally_env facts labels task in
+    let combinations = combinations_in env task in
+    elim (cases_Bool (list_all is_done labels)) [
+      | inl done ↦ (ready_parts (children_of facts place) combinations (finally_row facts env place task) (first_late_stop facts) true (rw done at ready)).2
+      | inr waits ↦ (let wrong = (ready_parts (children_of facts place) combinations None None false (rw waits at ready)).3 in cc (wrong))
+    ]
+
+pub ready_not_late : (facts : Facts) (place : ℕ) → label_of facts place ≡ Ready → All (λ s. level_of s < 3) facts.stops
+ready_not_late facts place ready = by_place (place_of facts place)
   where
     by_place : Place facts place → All (λ s. level_of s < 3) facts.stops
-    by_place (of_tasks task within is) = rw (ready_unstopped facts place acyclic within ready) (All-nil (λ s. level_of s < 3))
+    by_place (of_tasks task within is) = rw (ready_unstopped facts place within ready) (All-nil (λ s. level_of s < 3))
     by_place (of_finally task past is) =
-        let done = ready_finished facts acyclic place task past is ready in
-        let env = finally_env facts (first_labels facts) task in
-        let line : label_of facts place ≡ label_by (children_of facts place) (combinations_in env task) (finally_row facts env place task) (first_late_stop facts) (next_by true)
-        = final_label facts acyclic place task past is ∙ rw done refl in
-        let parts = ready_parts (children_of facts place) (combinations_in env task) (finally_row facts env place task) (first_late_stop facts) true (sym line ∙ ready) in
-        not_late facts.stops parts.2
+        let judged = final_judged facts place task past is in
+        not_late facts.stops (final_not_late facts judged.0 place task (sym judged.1 ∙ ready))
     by_place (beyond past) = let waits = past_waits facts place past in cc
 
 -- once all children ended
-
-is_wait : Verdict → Bool
-is_wait Waits = true
-is_wait _ = false
 
 all_found : {X : Type 0} (f : X → Bool) (xs : List X) → list_all f xs ≡ false → (x : X) × Contains xs x × (f x ≡ false)
 all_found f [] is = cc

@@ -178,9 +178,29 @@ labels_length facts = rounds_length (verdict_line facts) (task_total facts) (tas
 pub past_waits : (facts : Facts) (place : ℕ) → task_total facts ≤ place → label_of facts place ≡ Waits
 past_waits facts place le = get_or_past (labels_of facts) place Waits (rw (labels_length facts) le)
 
+last_line : (facts : Facts) (place : ℕ) → place < task_total facts → (prev : List Verdict) × (label_of facts place ≡ verdict_line facts prev place)
+last_line facts place lt = last_round (verdict_line facts) (task_total facts) (task_total facts) place (replicate (task_total facts) Waits) (omega arith) lt
+
+-- so is the label of a task of `tasks`, and of one of `finally`
+
+pub task_judged : (facts : Facts) (place : ℕ) (task : PipelineTask) → slice_get facts.spec.tasks place ≡ Some task
+    → (parents : List (ℕ × Verdict)) × (label_of facts place ≡ task_line facts parents place task)
+task_judged facts place task is =
+    let within = slice_get_within facts.spec.tasks place task is in
+    let last = last_line facts place (omega arith) in
+    (labelled_parents facts last.0 place, last.1 ∙ rw is refl)
+
+pub final_judged : (facts : Facts) (place : ℕ) (task : PipelineTask) → length facts.spec.tasks ≤ place → slice_get facts.spec.finally (place - length facts.spec.tasks) ≡ Some task
+    → (labels : List Verdict) × (label_of facts place ≡ finally_line facts labels place task)
+final_judged facts place task le is =
+    let within = slice_get_within facts.spec.finally (place - length facts.spec.tasks) task is in
+    let past : slice_get facts.spec.tasks place ≡ None = slice_get_past facts.spec.tasks place le in
+    let last = last_line facts place (omega arith) in
+    (take (length facts.spec.tasks) last.0, last.1 ∙ rw (past, is) refl)
+
 pub label_shape : (facts : Facts) (place : ℕ) → place < task_total facts → Shape facts place (label_of facts place)
 label_shape facts place lt =
-    let last = last_round (verdict_line facts) (task_total facts) (task_total facts) place (replicate (task_total facts) Waits) (omega arith) lt in
+    let last = last_line facts place lt in
     subst (λ (v : Verdict). Shape facts place v) (sym last.1) (line_shape facts last.0 place lt)
 
 -- laws of one label

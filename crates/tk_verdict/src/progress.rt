@@ -24,8 +24,8 @@ pub fn decided()
 pub fn ready_goes_on()
     ensures given { (facts : Facts) (place : ℕ) → IsAcyclic facts.spec.tasks → label_of facts place ≡ Ready
         → (bindings : List Binding) × (ready_bindings facts (labels_of facts) place ≡ Some bindings) × Gives facts place bindings }
-    ensures unstopped { (facts : Facts) (place : ℕ) → IsAcyclic facts.spec.tasks → place < length facts.spec.tasks → label_of facts place ≡ Ready → facts.stops ≡ [] }
-    ensures not_late { (facts : Facts) (place : ℕ) → IsAcyclic facts.spec.tasks → label_of facts place ≡ Ready → All (λ (stop : Stop). level_of stop < 3) facts.stops }
+    ensures unstopped { (facts : Facts) (place : ℕ) → place < length facts.spec.tasks → label_of facts place ≡ Ready → facts.stops ≡ [] }
+    ensures not_late { (facts : Facts) (place : ℕ) → label_of facts place ≡ Ready → All (λ (stop : Stop). level_of stop < 3) facts.stops }
 {}
 
 /// Once all children ended and no task is Wrong, all tasks are done, or one is Ready, or no stop is recorded, a child of
