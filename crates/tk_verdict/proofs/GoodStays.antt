@@ -34,7 +34,7 @@ use Rattle.tk_verdict.specs.Words.{task_words, task_env}
 use Rattle.tk_verdict.proofs.Elements.{any_same, all_of, all_at, map_in}
 use Rattle.tk_verdict.proofs.Lines.{next_by, ready_parts, skipped_parts, row_is, ready_has_none, skipped_has_none, task_label}
 use Rattle.tk_verdict.proofs.Locality.{parents_within}
-use Rattle.tk_verdict.proofs.Named.{parent_in}
+use Rattle.tk_verdict.proofs.NamedParents.{parent_in}
 use Rattle.tk_verdict.proofs.Resting.{all_ended_rests}
 use Rattle.tk_verdict.proofs.SameResults.{KnowsReadings, with_children, tasks_agree}
 use Rattle.tk_verdict.proofs.SameValues.{SameTask}

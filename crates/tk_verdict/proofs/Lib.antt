@@ -18,6 +18,7 @@ pub mod Mapped
 pub mod MatrixLists
 pub mod MissingTexts
 pub mod Named
+pub mod NamedParents
 pub mod OneLabelling
 pub mod Reading
 pub mod Resting

@@ -29,7 +29,7 @@ use Rattle.tk_verdict.specs.Available.{available, candidates, by_index, availabl
 use Rattle.tk_verdict.specs.WellFormed.{IsWellFormed, facts_texts}
 use Rattle.tk_verdict.specs.Words.{env_with}
 use Rattle.tk_verdict.proofs.Elements.{each_from, enumerated, all_at}
-use Rattle.tk_verdict.proofs.Named.{flat_in, in_parent_names, is_parent_named, among_first}
+use Rattle.tk_verdict.proofs.NamedParents.{flat_in, in_parent_names, is_parent_named, among_first}
 use Rattle.tk_verdict.proofs.SameValues.{SameTask, SameText, SameResult, task_same, text_agrees}
 
 abbrev pub KnowsReadings : Type 0
