@@ -3,6 +3,7 @@ pub mod AllLabels
 pub mod Below
 pub mod Elements
 pub mod Examples
+pub mod FailureFacts
 pub mod FinalLine
 pub mod GivenRight
 pub mod GoesOn

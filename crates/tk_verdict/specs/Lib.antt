@@ -2,6 +2,7 @@ pub mod Available
 pub mod Bindings
 pub mod Condition
 pub mod Facts
+pub mod Failures
 pub mod Gathered
 pub mod Gives
 pub mod Good
