@@ -5,6 +5,7 @@ pub mod Elements
 pub mod Examples
 pub mod FailureFacts
 pub mod FinalLine
+pub mod Formed
 pub mod GivenRight
 pub mod GoesOn
 pub mod GoodStays

@@ -3,8 +3,10 @@
 #![tactic(auto)]
 
 mod available;
+mod calls;
 mod children;
 mod combined;
+mod emit;
 mod emitted;
 mod finals;
 mod finished;
@@ -28,3 +30,7 @@ mod status;
 mod tasks;
 mod walk;
 mod words;
+
+pub use calls::{condition, verdicts, verdicts_by};
+pub use emit::pipeline_results;
+pub use finished::condition_with;
