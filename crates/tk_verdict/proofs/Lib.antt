@@ -1,6 +1,7 @@
 pub mod AvailableFacts
 pub mod AllLabels
 pub mod Below
+pub mod BindingsAt
 pub mod Elements
 pub mod Examples
 pub mod FailureFacts

@@ -3,6 +3,7 @@
 #![tactic(auto)]
 
 mod available;
+mod bindings;
 mod calls;
 mod children;
 mod combined;
@@ -31,6 +32,7 @@ mod tasks;
 mod walk;
 mod words;
 
+pub use bindings::ready;
 pub use calls::{condition, verdicts, verdicts_by};
 pub use emit::pipeline_results;
 pub use finished::condition_with;
