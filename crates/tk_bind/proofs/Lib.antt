@@ -1,12 +1,15 @@
 pub mod AllOk
-pub mod Examples
+pub mod BindingExamples
+pub mod CheckExamples
 pub mod FirstFound
+pub mod FittingExamples
 pub mod Gathering
 pub mod GroupFacts
 pub mod KeyFacts
 pub mod Putting
 pub mod Readings
 pub mod StepFacts
+pub mod TextExamples
 pub mod TextFault
 pub mod WholeElement
 pub mod WithPair

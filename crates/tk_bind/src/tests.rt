@@ -1,224 +1,137 @@
-//! Bindings in order of their sources, and what may not stand in a scope.
+//! Bindings and checks, a call for each kind of answer. What they give row by row is computed in the examples of the
+//! proofs.
 
 use crate::{BindError, CheckError, Scope, ScopeNames, bind_params, check_text};
 use std::alloc::{AllocError, Global};
-use std::fmt::Write;
 use std::test::Fail;
-use tk_types::{List, Pair, Param, ParamSpec, ParamType, Text, Value};
+use tk_types::{List, Param, ParamSpec, ParamType, Text, Value};
 
-fn text(alloc: Global, text: &str) -> Result<Text, AllocError> {
-    Text::from_str(alloc, text)
-}
-
-fn texts(alloc: Global, items: &[&str]) -> Result<List<Text>, AllocError> {
-    let mut list = List::new(alloc);
-    for item in items {
-        list.push(text(alloc, item)?)?;
-    }
-    Ok(list)
-}
-
-fn string(alloc: Global, value: &str) -> Result<Value, AllocError> {
-    Ok(Value::Str(text(alloc, value)?))
-}
-
-fn array(alloc: Global, items: &[&str]) -> Result<Value, AllocError> {
-    Ok(Value::Arr(texts(alloc, items)?))
-}
-
-/// An object whose values are its keys.
-fn object(alloc: Global, keys: &[&str]) -> Result<Value, AllocError> {
-    let mut pairs = List::new(alloc);
-    for key in keys {
-        pairs.push(Pair {
-            key: text(alloc, key)?,
-            value: text(alloc, key)?,
-        })?;
-    }
-    Ok(Value::Obj(pairs))
-}
-
-/// Parameters `x`, each with one of these characters as its value.
-fn xs(alloc: Global, values: &str) -> Result<List<Param>, AllocError> {
-    let mut params = List::new(alloc);
-    for value in values.chars() {
-        params.push(Param {
-            name: text(alloc, "x")?,
-            value: Value::Str(Text::from_string(format!(in alloc; "{value}")?)),
-        })?;
-    }
-    Ok(params)
-}
-
-fn spec(
-    alloc: Global,
-    kind: ParamType,
-    default_value: Option<Value>,
-    keys: &[&str],
-) -> Result<ParamSpec, AllocError> {
+/// A wanted `x`.
+fn wanted(alloc: Global, kind: ParamType) -> Result<ParamSpec, AllocError> {
     Ok(ParamSpec {
-        name: text(alloc, "x")?,
+        name: Text::from_str(alloc, "x")?,
         kind,
-        default_value,
-        properties: texts(alloc, keys)?,
+        default_value: None,
+        properties: List::new(alloc),
     })
 }
 
-fn show_value(out: &mut String, value: &Value) -> Result<(), AllocError> {
-    match value {
-        Value::Str(text) => write!(out, "{}", text.as_str()),
-        Value::Arr(items) => write!(out, "[{}]", items.len()),
-        Value::Obj(pairs) => {
-            for pair in pairs.as_slice() {
-                write!(out, "{}:{},", pair.key.as_str(), pair.value.as_str())?;
-            }
-            Ok(())
-        }
-    }
+/// A text `x`.
+fn x_is(alloc: Global, word: &str) -> Result<Param, AllocError> {
+    Ok(Param {
+        name: Text::from_str(alloc, "x")?,
+        value: Value::Str(Text::from_str(alloc, word)?),
+    })
 }
 
-/// `NAME=VALUE` of each bound parameter, or why there are none.
-fn shown(alloc: Global, bound: Result<List<Param>, BindError>) -> Result<String, AllocError> {
-    let mut out = String::new(alloc);
+/// The text that the first parameter is bound to, or why there is none.
+fn told(bound: &Result<List<Param>, BindError>) -> (&str, &str) {
     match bound {
-        Ok(params) => {
-            for param in params.as_slice() {
-                write!(out, "{}=", param.name.as_str())?;
-                show_value(&mut out, &param.value)?;
-            }
-        }
-        Err(BindError::Missing { name }) => write!(out, "missing {}", name.as_str())?,
-        Err(BindError::WrongKind { name }) => write!(out, "wrong kind {}", name.as_str())?,
-        Err(BindError::Memory) => out.push_str("memory")?,
+        Ok(params) => match params.as_slice() {
+            [
+                Param {
+                    value: Value::Str(text),
+                    ..
+                },
+            ] => ("bound", text.as_str()),
+            _ => ("other", ""),
+        },
+        Err(BindError::Missing { name }) => ("missing", name.as_str()),
+        Err(BindError::WrongKind { name }) => ("wrong kind", name.as_str()),
+        Err(BindError::Memory) => ("memory", ""),
     }
-    Ok(out)
 }
 
 #[test]
-fn the_first_source_counts(rt: HostRuntime) -> Result<(), Fail> {
+fn binds_what_is_given(rt: HostRuntime) -> Result<(), Fail> {
     let alloc = rt.alloc();
-    let table = [
-        ("10", "2", true, "4", "x=1"),
-        ("", "20", true, "4", "x=2"),
-        ("", "", true, "4", "x=3"),
-        ("", "", false, "40", "x=4"),
-        ("", "", false, "", "missing x"),
-        ("1", "", false, "", "x=1"),
-    ];
-    for (given, outer, has_default, fallback, expected) in table {
-        let default_value = if has_default {
-            Some(string(alloc, "3")?)
-        } else {
-            None
-        };
-        let wanted = [spec(alloc, ParamType::Str, default_value, &[])?];
-        let bound = bind_params(
-            alloc,
-            &wanted,
-            xs(alloc, given)?.as_slice(),
-            xs(alloc, outer)?.as_slice(),
-            xs(alloc, fallback)?.as_slice(),
-        );
-        assert_eq!(rt; shown(alloc, bound)?.as_str(), expected);
-    }
+    let wanted = [wanted(alloc, ParamType::Str)?];
+    let given = [x_is(alloc, "1")?];
+    let outer = [x_is(alloc, "2")?];
+    let bound = bind_params(alloc, &wanted, &given, &outer, &[]);
+    let (kind, text) = told(&bound);
+    assert_eq!(rt; kind, "bound");
+    assert_eq!(rt; text, "1");
     Ok(())
 }
 
 #[test]
-fn a_value_has_the_type_and_the_keys(rt: HostRuntime) -> Result<(), Fail> {
+fn tells_what_is_missing(rt: HostRuntime) -> Result<(), Fail> {
     let alloc = rt.alloc();
-    let list = [spec(alloc, ParamType::Arr, Some(array(alloc, &["a"])?), &[])?];
-    let given = xs(alloc, "s")?;
-    let bound = bind_params(alloc, &list, given.as_slice(), &[], &[]);
-    assert_eq!(rt; shown(alloc, bound)?.as_str(), "wrong kind x");
-    let bound = bind_params(alloc, &list, &[], &[], &[]);
-    assert_eq!(rt; shown(alloc, bound)?.as_str(), "x=[1]");
-
-    let default_value = Some(object(alloc, &["d", "b", "a"])?);
-    let keys = ["a", "c"];
-    let wanted = [spec(alloc, ParamType::Obj, default_value, &keys)?];
-    let given = [Param {
-        name: text(alloc, "x")?,
-        value: object(alloc, &["b", "c"])?,
-    }];
-    let bound = bind_params(alloc, &wanted, &given, &[], &[]);
-    assert_eq!(rt; shown(alloc, bound)?.as_str(), "x=a:a,b:b,c:c,d:d,");
+    let wanted = [wanted(alloc, ParamType::Str)?];
     let bound = bind_params(alloc, &wanted, &[], &[], &[]);
-    assert_eq!(rt; shown(alloc, bound)?.as_str(), "missing x");
+    let (kind, name) = told(&bound);
+    assert_eq!(rt; kind, "missing");
+    assert_eq!(rt; name, "x");
     Ok(())
 }
 
-/// A scope with the array `x`, `u` of an unknown type, and a result path.
-fn scope(alloc: Global, results: bool) -> Result<Scope, AllocError> {
-    let mut params = List::new(alloc);
-    params.push(spec(alloc, ParamType::Arr, None, &[])?)?;
+#[test]
+fn tells_the_wrong_kind(rt: HostRuntime) -> Result<(), Fail> {
+    let alloc = rt.alloc();
+    let wanted = [wanted(alloc, ParamType::Arr)?];
+    let given = [x_is(alloc, "s")?];
+    let bound = bind_params(alloc, &wanted, &given, &[], &[]);
+    let (kind, name) = told(&bound);
+    assert_eq!(rt; kind, "wrong kind");
+    assert_eq!(rt; name, "x");
+    Ok(())
+}
+
+/// A scope with the list `x` alone.
+fn scope(alloc: Global) -> Result<Scope, AllocError> {
+    let x = wanted(alloc, ParamType::Arr)?;
     Ok(Scope {
-        params,
-        untyped: texts(alloc, &["u"])?,
-        tasks: texts(alloc, &[])?,
-        words: texts(alloc, &["context.taskRun.name"])?,
-        results,
+        params: List::from_vec(vec![in alloc; x]?),
+        untyped: List::new(alloc),
+        tasks: List::new(alloc),
+        words: List::new(alloc),
+        results: false,
         finally_results: false,
-        paths: texts(alloc, &["results.r.path"])?,
+        paths: List::new(alloc),
     })
 }
 
-fn told(alloc: Global, checked: Result<(), CheckError>) -> Result<String, AllocError> {
+/// What is wrong with a text, and with which reference.
+fn fault(checked: &Result<(), CheckError>) -> (&str, &str) {
     match checked {
-        Ok(()) => format!(in alloc; "good"),
-        Err(CheckError::BadReference { offset }) => format!(in alloc; "bad {offset}"),
-        Err(CheckError::Unknown { reference }) => {
-            format!(in alloc; "unknown {}", reference.as_str())
-        }
-        Err(CheckError::WrongType { reference }) => {
-            format!(in alloc; "wrong {}", reference.as_str())
-        }
-        Err(CheckError::Memory) => format!(in alloc; "memory"),
+        Ok(()) => ("good", ""),
+        Err(CheckError::BadReference { .. }) => ("bad reference", ""),
+        Err(CheckError::Unknown { reference }) => ("unknown", reference.as_str()),
+        Err(CheckError::WrongType { reference }) => ("wrong type", reference.as_str()),
+        Err(CheckError::Memory) => ("memory", ""),
     }
 }
 
+/// A text, whether `[*]` may be the whole of it, what is wrong with it, and with which reference.
+const CHECKED: [(&str, bool, &str, &str); 4] = [
+    ("$(params.x[*])", true, "good", ""),
+    ("$(params.x[*])", false, "wrong type", "$(params.x[*])"),
+    ("$(params.x)$(params.q)", true, "unknown", "$(params.q)"),
+    ("-$(params.x[*])", true, "bad reference", ""),
+];
+
 #[test]
-fn what_may_not_stand_in_a_scope(rt: HostRuntime) -> Result<(), Fail> {
+fn checks_texts(rt: HostRuntime) -> Result<(), Fail> {
     let alloc = rt.alloc();
-    let table = [
-        ("$(params.q)", false, false, "unknown $(params.q)"),
-        ("-$(params.x[*])", true, false, "bad 1"),
-        ("$(params.x)", true, false, "wrong $(params.x)"),
-        ("$(params.x[*])", false, false, "wrong $(params.x[*])"),
-        ("$(params.x[*])", true, false, "good"),
-        (
-            "$(tasks.a.results.r)",
-            false,
-            false,
-            "unknown $(tasks.a.results.r)",
-        ),
-        ("$(tasks.a.results.r)$(tasks.status)", false, true, "good"),
-        (
-            "$(finally.a.results.r)",
-            false,
-            true,
-            "unknown $(finally.a.results.r)",
-        ),
-        (
-            "$(params.x)$(params.p)$(params.q)",
-            false,
-            false,
-            "unknown $(params.p)",
-        ),
-        (
-            "$(params.x[0])$(params.u.k)$(context.taskRun.name)$(results.r.path)",
-            false,
-            false,
-            "good",
-        ),
-    ];
-    for (checked, whole, results, expected) in table {
-        let scope = scope(alloc, results)?;
-        let answer = check_text(alloc, checked, &scope, whole);
-        assert_eq!(rt; told(alloc, answer)?.as_str(), expected);
-        let names = ScopeNames::new(alloc, &scope)?;
-        let answer = names.check(alloc, checked, whole);
-        assert_eq!(rt; told(alloc, answer)?.as_str(), expected);
+    let scope = scope(alloc)?;
+    for (text, whole, kind, reference) in CHECKED {
+        let checked = check_text(alloc, text, &scope, whole);
+        let (found, spelling) = fault(&checked);
+        assert_eq!(rt; found, kind, "{text}");
+        assert_eq!(rt; spelling, reference, "{text}");
     }
+    Ok(())
+}
+
+#[test]
+fn checks_by_an_index(rt: HostRuntime) -> Result<(), Fail> {
+    let alloc = rt.alloc();
+    let scope = scope(alloc)?;
+    let names = ScopeNames::new(alloc, &scope)?;
+    let checked = names.check(alloc, "$(params.q)", false);
+    let (found, spelling) = fault(&checked);
+    assert_eq!(rt; found, "unknown");
+    assert_eq!(rt; spelling, "$(params.q)");
     Ok(())
 }
