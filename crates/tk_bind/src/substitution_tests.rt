@@ -1,9 +1,9 @@
-//! Substitutions and bodies, a call for each kind of answer. What they give row by row is computed in the examples of
-//! the proofs.
+//! Substitutions and bodies, a row for each form and each kind of answer. More rows are computed in the examples of the
+//! proofs.
 
-ghost use Rattle.std.specs.Prelude.{All, IfOk};
-ghost use Rattle.tk_vars.specs.Reading.{HasReading};
-ghost use Rattle.tk_bind.specs.Readings.{ReadsMatrix, ReadsParams, ReadsStep, ReadsValue};
+ghost use Rattle.std.specs.Prelude.{◌≡◌, [], ◌∷◌, All, IfOk};
+ghost use Rattle.tk_types.specs.Value.{value_texts};
+ghost use Rattle.tk_bind.specs.Readings.{ReadsMatrix, ReadsParams, ReadsStep};
 
 use crate::{
     Env, Given, Lookup, SubstituteError, fits, matrix_in, substitute, substitute_list,
@@ -62,91 +62,74 @@ fn env(alloc: Global) -> Result<Env, AllocError> {
     })
 }
 
-/// Whether there is a value, and it or the reference that has none.
-fn told(made: Result<Text, SubstituteError>) -> Result<(bool, Text), AllocError> {
-    match made {
-        Ok(text) => Ok((true, text)),
-        Err(SubstituteError::Unavailable { reference }) => Ok((false, reference)),
-        Err(SubstituteError::Memory) => Err(AllocError),
-    }
-}
-
-fn substituted(alloc: Global, words: &str, env: &Env) -> Result<(bool, Text), ScanError> {
-    scan(alloc, words)?;
-    Ok(told(substitute(alloc, words, env))?)
-}
-
-/// A text, whether it has a value, and that or the reference that has none.
-const TEXTS: [(&str, bool, &str); 5] = [
-    ("x$(params['t'])y", true, "x1y"),
-    ("$(params.again)", true, "$(params.t)"),
-    ("$(tasks.a.results['r'])-$(tasks.status)", true, "7-None"),
-    ("$(params.y)$(params.z)", false, "$(params.y)"),
-    ("$(params.x[*])", false, "$(params.x[*])"),
-];
-
-#[test]
-fn substitutes_texts(rt: HostRuntime) -> Result<(), Fail> {
-    let alloc = rt.alloc();
-    let env = env(alloc)?;
-    for (words, has, want) in TEXTS {
-        let Ok((found, text)) = substituted(alloc, words, &env) else {
-            panic!(rt; "{words} has no reading");
-        };
-        assert_eq!(rt; found, has, "{words}");
-        assert_eq!(rt; text.as_str(), want, "{words}");
-    }
-    Ok(())
-}
-
-/// Texts that have a reading.
-fn read(alloc: Global, words: &[&str]) -> Result<List<Text>, ScanError>
-    ensures { IfOk result (λ texts. All HasReading texts) }
-{
-    let mut texts = List::new(alloc);
-    for word in words {
-        scan(alloc, word)?;
-        texts.push(Text::from_str(alloc, word)?)?;
-    }
-    Ok(texts)
-}
-
-/// The texts with a bar behind each.
-fn barred(alloc: Global, texts: &[Text]) -> Result<String, AllocError> {
-    let mut out = String::new(alloc);
+/// Adds the texts of a value, with a bar behind each.
+fn push_texts(out: &mut String, texts: &[Text]) -> Result<(), AllocError> {
     for text in texts {
         out.push_str(text.as_str())?;
         out.push('|')?;
     }
-    Ok(out)
-}
-
-#[test]
-fn splices_a_list(rt: HostRuntime) -> Result<(), Fail> {
-    let alloc = rt.alloc();
-    let env = env(alloc)?;
-    let Ok(texts) = read(alloc, &["a", "$(params.x[*])", "$(params.t)"]) else {
-        panic!(rt; "no reading");
-    };
-    let Ok(made) = substitute_list(alloc, texts.as_slice(), &env) else {
-        panic!(rt; "no value");
-    };
-    assert_eq!(rt; barred(alloc, made.as_slice())?.as_str(), "a|b|c|1|");
     Ok(())
 }
 
-/// A text as a value, and an object with it at the key `k`.
-fn text_value(alloc: Global, words: &str) -> Result<Value, ScanError>
-    ensures { IfOk result ReadsValue }
-{
-    scan(alloc, words)?;
-    Ok(Value::Str(Text::from_str(alloc, words)?))
+/// Adds pairs, with a bar behind each.
+fn push_pairs(out: &mut String, pairs: &[Pair]) -> Result<(), AllocError> {
+    for pair in pairs {
+        write!(out, "{}={}|", pair.key.as_str(), pair.value.as_str())?;
+    }
+    Ok(())
 }
 
-fn object_value(alloc: Global, words: &str) -> Result<Value, ScanError>
-    ensures { IfOk result ReadsValue }
-{
+fn push_value(out: &mut String, value: &Value) -> Result<(), AllocError> {
+    match value {
+        Value::Str(text) => out.push_str(text.as_str()),
+        Value::Arr(texts) => push_texts(out, texts.as_slice()),
+        Value::Obj(pairs) => push_pairs(out, pairs.as_slice()),
+    }
+}
+
+/// The value, or `no` and the reference that has none.
+fn told(alloc: Global, made: Result<Value, SubstituteError>) -> Result<String, AllocError> {
+    let mut out = String::new(alloc);
+    match made {
+        Ok(value) => push_value(&mut out, &value)?,
+        Err(SubstituteError::Unavailable { reference }) => {
+            write!(&mut out, "no {}", reference.as_str())?
+        }
+        Err(SubstituteError::Memory) => return Err(AllocError),
+    }
+    Ok(out)
+}
+
+fn alone(alloc: Global, words: &str, env: &Env) -> Result<String, ScanError> {
     scan(alloc, words)?;
+    let made = match substitute(alloc, words, env) {
+        Ok(text) => Ok(Value::Str(text)),
+        Err(error) => Err(error),
+    };
+    Ok(told(alloc, made)?)
+}
+
+fn as_value(alloc: Global, words: &str, env: &Env) -> Result<String, ScanError> {
+    scan(alloc, words)?;
+    let value = Value::Str(Text::from_str(alloc, words)?);
+    let made = substitute_value(alloc, &value, env);
+    Ok(told(alloc, made)?)
+}
+
+fn as_element(alloc: Global, words: &str, env: &Env) -> Result<String, ScanError> {
+    scan(alloc, words)?;
+    let texts = vec![in alloc; Text::from_str(alloc, words)?]?;
+    let made = match substitute_list(alloc, texts.as_slice(), env) {
+        Ok(texts) => Ok(Value::Arr(texts)),
+        Err(error) => Err(error),
+    };
+    Ok(told(alloc, made)?)
+}
+
+/// An object with a text at the key `k`.
+fn object(alloc: Global, words: &str) -> Result<Value, AllocError>
+    ensures { IfOk result (λ value. value_texts value ≡ words.now ∷ []) }
+{
     let pair = Pair {
         key: Text::from_str(alloc, "k")?,
         value: Text::from_str(alloc, words)?,
@@ -154,93 +137,119 @@ fn object_value(alloc: Global, words: &str) -> Result<Value, ScanError>
     Ok(Value::Obj(List::from_vec(vec![in alloc; pair]?)))
 }
 
-#[test]
-fn gives_a_whole_list(rt: HostRuntime) -> Result<(), Fail> {
-    let alloc = rt.alloc();
-    let env = env(alloc)?;
-    let Ok(value) = text_value(alloc, "$(params.x[*])") else {
-        panic!(rt; "no reading");
-    };
-    let Ok(Value::Arr(texts)) = substitute_value(alloc, &value, &env) else {
-        panic!(rt; "no list");
-    };
-    assert_eq!(rt; barred(alloc, texts.as_slice())?.as_str(), "b|c|");
-    Ok(())
-}
-
-#[test]
-fn substitutes_in_an_object(rt: HostRuntime) -> Result<(), Fail> {
-    let alloc = rt.alloc();
-    let env = env(alloc)?;
-    let Ok(value) = object_value(alloc, "<$(params.t)>") else {
-        panic!(rt; "no reading");
-    };
-    let Ok(Value::Obj(pairs)) = substitute_value(alloc, &value, &env) else {
-        panic!(rt; "no object");
-    };
-    let [pair] = pairs.as_slice() else {
-        panic!(rt; "not one pair");
-    };
-    assert_eq!(rt; pair.key.as_str(), "k");
-    assert_eq!(rt; pair.value.as_str(), "<1>");
-    Ok(())
+fn at_key(alloc: Global, words: &str, env: &Env) -> Result<String, ScanError> {
+    scan(alloc, words)?;
+    let value = object(alloc, words)?;
+    let made = substitute_value(alloc, &value, env);
+    Ok(told(alloc, made)?)
 }
 
 /// A parameter whose value is a list of one text.
 fn listed(alloc: Global, words: &str) -> Result<List<Param>, ScanError>
     ensures { IfOk result ReadsParams }
 {
-    let texts = read(alloc, &[words])?;
+    scan(alloc, words)?;
+    let texts = vec![in alloc; Text::from_str(alloc, words)?]?;
     let param = Param {
         name: Text::from_str(alloc, "p")?,
-        value: Value::Arr(texts),
+        value: Value::Arr(List::from_vec(texts)),
     };
     Ok(List::from_vec(vec![in alloc; param]?))
 }
 
-/// A matrix of a list and an entry.
-fn matrix(alloc: Global, list: &str, entry: &str) -> Result<Matrix, ScanError>
+/// A matrix with a text in a list and in an entry.
+fn matrix(alloc: Global, words: &str) -> Result<Matrix, ScanError>
     ensures { IfOk result ReadsMatrix }
 {
-    let params = listed(alloc, list)?;
-    let entry = listed(alloc, entry)?;
+    let params = listed(alloc, words)?;
+    let entry = listed(alloc, words)?;
     Ok(Matrix {
         params,
         include: List::from_vec(vec![in alloc; entry]?),
     })
 }
 
-/// The texts of the first parameter, if it is a list.
-fn first_list(params: &[Param]) -> &[Text] {
-    match params {
-        [
-            Param {
-                value: Value::Arr(texts),
-                ..
-            },
-            ..
-        ] => texts.as_slice(),
-        _ => &[],
+fn push_values(out: &mut String, params: &[Param]) -> Result<(), AllocError> {
+    for param in params {
+        push_value(out, &param.value)?;
+    }
+    Ok(())
+}
+
+fn push_matrix(out: &mut String, matrix: &Matrix) -> Result<(), AllocError> {
+    push_values(out, matrix.params.as_slice())?;
+    for entry in matrix.include.as_slice() {
+        push_values(out, entry.as_slice())?;
+    }
+    Ok(())
+}
+
+fn matrix_told(alloc: Global, made: &Option<Option<Matrix>>) -> Result<String, AllocError> {
+    let mut out = String::new(alloc);
+    match made {
+        Some(Some(matrix)) => push_matrix(&mut out, matrix)?,
+        _ => out.push_str("none")?,
+    }
+    Ok(out)
+}
+
+fn in_matrix(alloc: Global, words: &str, env: &Env) -> Result<String, ScanError> {
+    let matrix = Some(matrix(alloc, words)?);
+    let lookup = Lookup::new(alloc, env)?;
+    let made = matrix_in(alloc, &lookup, &matrix)?;
+    Ok(matrix_told(alloc, &made)?)
+}
+
+/// Where a text stands.
+#[derive(Clone, Copy)]
+enum Form {
+    Alone,
+    Value,
+    Element,
+    AtKey,
+    Matrix,
+}
+
+fn substituted(alloc: Global, form: Form, words: &str, env: &Env) -> Result<String, ScanError> {
+    match form {
+        Form::Alone => alone(alloc, words, env),
+        Form::Value => as_value(alloc, words, env),
+        Form::Element => as_element(alloc, words, env),
+        Form::AtKey => at_key(alloc, words, env),
+        Form::Matrix => in_matrix(alloc, words, env),
     }
 }
 
+/// A text, where it stands, and what it gives there.
+const TEXTS: [(&str, Form, &str); 12] = [
+    ("x$(params['t'])y", Form::Alone, "x1y"),
+    ("$(params.again)", Form::Alone, "$(params.t)"),
+    (
+        "$(tasks.a.results['r'])-$(tasks.status)",
+        Form::Alone,
+        "7-None",
+    ),
+    ("$(params.y)$(params.z)", Form::Alone, "no $(params.y)"),
+    ("$(params.x[*])", Form::Alone, "no $(params.x[*])"),
+    ("$(params.t)", Form::Value, "1"),
+    ("$(params.x[*])", Form::Value, "b|c|"),
+    ("$(params.x[*])", Form::Element, "b|c|"),
+    ("<$(params.t)>", Form::AtKey, "k=<1>|"),
+    ("$(params.x[*])", Form::AtKey, "no $(params.x[*])"),
+    ("$(params.x[*])", Form::Matrix, "b|c|b|c|"),
+    ("$(params.z)", Form::Matrix, "none"),
+];
+
 #[test]
-fn substitutes_in_a_matrix(rt: HostRuntime) -> Result<(), Fail> {
+fn substitutes_texts(rt: HostRuntime) -> Result<(), Fail> {
     let alloc = rt.alloc();
     let env = env(alloc)?;
-    let lookup = Lookup::new(alloc, &env)?;
-    let Ok(matrix) = matrix(alloc, "$(params.x[*])", "$(params.t)") else {
-        panic!(rt; "no reading");
-    };
-    let Some(Some(made)) = matrix_in(alloc, &lookup, &Some(matrix))? else {
-        panic!(rt; "no value");
-    };
-    let list = first_list(made.params.as_slice());
-    assert_eq!(rt; barred(alloc, list)?.as_str(), "b|c|");
-    let [entry] = made.include.as_slice() else {
-        panic!(rt; "not one entry");
-    };
-    assert_eq!(rt; barred(alloc, first_list(entry.as_slice()))?.as_str(), "1|");
+    for (words, form, want) in TEXTS {
+        let Ok(found) = substituted(alloc, form, words, &env) else {
+            panic!(rt; "{words} has no reading");
+        };
+        assert_eq!(rt; found.as_str(), want, "{words}");
+    }
     Ok(())
 }
 
@@ -290,25 +299,28 @@ fn body(alloc: Global, script: &str) -> Result<TaskBody, ScanError>
     })
 }
 
-#[test]
-fn fits_with_what_it_declares(rt: HostRuntime) -> Result<(), Fail> {
-    let alloc = rt.alloc();
-    let Ok(body) = body(alloc, "$(params.p)$(context.taskRun.name)") else {
-        panic!(rt; "no reading");
-    };
-    let given = [text_param(alloc, "p", "1")?];
-    assert!(rt; fits(alloc, &body, &given)?);
-    assert!(rt; !fits(alloc, &body, &[])?, "nothing given");
-    Ok(())
+/// Whether the task fits with a text of this name.
+fn fits_with(alloc: Global, name: &str, script: &str) -> Result<bool, ScanError> {
+    let given = [text_param(alloc, name, "1")?];
+    let body = body(alloc, script)?;
+    Ok(fits(alloc, &body, &given)?)
 }
 
+/// The name of what is given, a script, and whether they fit.
+const BODIES: [(&str, &str, bool); 3] = [
+    ("p", "$(params.p)$(context.taskRun.name)", true),
+    ("q", "$(params.q)", false),
+    ("p", "$(params.q)", false),
+];
+
 #[test]
-fn lacks_what_it_uses(rt: HostRuntime) -> Result<(), Fail> {
+fn decides_what_fits(rt: HostRuntime) -> Result<(), Fail> {
     let alloc = rt.alloc();
-    let Ok(body) = body(alloc, "$(params.q)") else {
-        panic!(rt; "no reading");
-    };
-    let given = [text_param(alloc, "p", "1")?];
-    assert!(rt; !fits(alloc, &body, &given)?);
+    for (name, script, want) in BODIES {
+        let Ok(found) = fits_with(alloc, name, script) else {
+            panic!(rt; "{script} has no reading");
+        };
+        assert_eq!(rt; found, want, "{script}");
+    }
     Ok(())
 }

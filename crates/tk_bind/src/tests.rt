@@ -1,5 +1,4 @@
-//! Bindings and checks, a call for each kind of answer. What they give row by row is computed in the examples of the
-//! proofs.
+//! Bindings and checks, a row for each kind of answer. More rows are computed in the examples of the proofs.
 
 use crate::{BindError, CheckError, Scope, ScopeNames, bind_params, check_text};
 use std::alloc::{AllocError, Global};
@@ -24,57 +23,65 @@ fn x_is(alloc: Global, word: &str) -> Result<Param, AllocError> {
     })
 }
 
-/// The text that the first parameter is bound to, or why there is none.
-fn told(bound: &Result<List<Param>, BindError>) -> (&str, &str) {
-    match bound {
-        Ok(params) => match params.as_slice() {
-            [
-                Param {
-                    value: Value::Str(text),
-                    ..
-                },
-            ] => ("bound", text.as_str()),
-            _ => ("other", ""),
+/// Texts `x`, each one of these words.
+fn xs(alloc: Global, words: &[&str]) -> Result<List<Param>, AllocError> {
+    let mut params = List::new(alloc);
+    for word in words {
+        params.push(x_is(alloc, word)?)?;
+    }
+    Ok(params)
+}
+
+/// The text that one parameter is bound to.
+fn bound_text(params: &[Param]) -> &str {
+    match params {
+        [param] => match &param.value {
+            Value::Str(text) => text.as_str(),
+            _ => "no text",
         },
-        Err(BindError::Missing { name }) => ("missing", name.as_str()),
-        Err(BindError::WrongKind { name }) => ("wrong kind", name.as_str()),
-        Err(BindError::Memory) => ("memory", ""),
+        _ => "not one",
     }
 }
 
+/// What is bound, or why nothing is.
+fn told(alloc: Global, bound: Result<List<Param>, BindError>) -> Result<String, AllocError> {
+    match bound {
+        Ok(params) => String::from_str(alloc, bound_text(params.as_slice())),
+        Err(BindError::Missing { name }) => format!(in alloc; "missing {}", name.as_str()),
+        Err(BindError::WrongKind { name }) => format!(in alloc; "wrong kind {}", name.as_str()),
+        Err(BindError::Memory) => Err(AllocError),
+    }
+}
+
+/// What a wanted `x` is bound to.
+fn bound(
+    alloc: Global,
+    kind: ParamType,
+    given: &[&str],
+    outer: &[&str],
+) -> Result<String, AllocError> {
+    let given = xs(alloc, given)?;
+    let outer = xs(alloc, outer)?;
+    let wanted = [wanted(alloc, kind)?];
+    let bound = bind_params(alloc, &wanted, given.as_slice(), outer.as_slice(), &[]);
+    told(alloc, bound)
+}
+
 #[test]
-fn binds_what_is_given(rt: HostRuntime) -> Result<(), Fail> {
+fn binds_parameters(rt: HostRuntime) -> Result<(), Fail> {
     let alloc = rt.alloc();
-    let wanted = [wanted(alloc, ParamType::Str)?];
-    let given = [x_is(alloc, "1")?];
-    let outer = [x_is(alloc, "2")?];
-    let bound = bind_params(alloc, &wanted, &given, &outer, &[]);
-    let (kind, text) = told(&bound);
-    assert_eq!(rt; kind, "bound");
-    assert_eq!(rt; text, "1");
+    let first = bound(alloc, ParamType::Str, &["1", "0"], &["2"])?;
+    assert_eq!(rt; first.as_str(), "1");
     Ok(())
 }
 
 #[test]
-fn tells_what_is_missing(rt: HostRuntime) -> Result<(), Fail> {
+fn tells_why_nothing_is_bound(rt: HostRuntime) -> Result<(), Fail> {
     let alloc = rt.alloc();
-    let wanted = [wanted(alloc, ParamType::Str)?];
-    let bound = bind_params(alloc, &wanted, &[], &[], &[]);
-    let (kind, name) = told(&bound);
-    assert_eq!(rt; kind, "missing");
-    assert_eq!(rt; name, "x");
-    Ok(())
-}
-
-#[test]
-fn tells_the_wrong_kind(rt: HostRuntime) -> Result<(), Fail> {
-    let alloc = rt.alloc();
-    let wanted = [wanted(alloc, ParamType::Arr)?];
-    let given = [x_is(alloc, "s")?];
-    let bound = bind_params(alloc, &wanted, &given, &[], &[]);
-    let (kind, name) = told(&bound);
-    assert_eq!(rt; kind, "wrong kind");
-    assert_eq!(rt; name, "x");
+    let missing = bound(alloc, ParamType::Str, &[], &[])?;
+    assert_eq!(rt; missing.as_str(), "missing x");
+    let wrong = bound(alloc, ParamType::Arr, &["s"], &[])?;
+    assert_eq!(rt; wrong.as_str(), "wrong kind x");
     Ok(())
 }
 
@@ -92,46 +99,51 @@ fn scope(alloc: Global) -> Result<Scope, AllocError> {
     })
 }
 
-/// What is wrong with a text, and with which reference.
-fn fault(checked: &Result<(), CheckError>) -> (&str, &str) {
+/// What is wrong with a text.
+fn fault(alloc: Global, checked: Result<(), CheckError>) -> Result<String, AllocError> {
     match checked {
-        Ok(()) => ("good", ""),
-        Err(CheckError::BadReference { .. }) => ("bad reference", ""),
-        Err(CheckError::Unknown { reference }) => ("unknown", reference.as_str()),
-        Err(CheckError::WrongType { reference }) => ("wrong type", reference.as_str()),
-        Err(CheckError::Memory) => ("memory", ""),
+        Ok(()) => String::from_str(alloc, "good"),
+        Err(CheckError::BadReference { offset }) => format!(in alloc; "bad {offset}"),
+        Err(CheckError::Unknown { reference }) => {
+            format!(in alloc; "unknown {}", reference.as_str())
+        }
+        Err(CheckError::WrongType { reference }) => {
+            format!(in alloc; "wrong {}", reference.as_str())
+        }
+        Err(CheckError::Memory) => Err(AllocError),
     }
 }
 
-/// A text, whether `[*]` may be the whole of it, what is wrong with it, and with which reference.
-const CHECKED: [(&str, bool, &str, &str); 4] = [
-    ("$(params.x[*])", true, "good", ""),
-    ("$(params.x[*])", false, "wrong type", "$(params.x[*])"),
-    ("$(params.x)$(params.q)", true, "unknown", "$(params.q)"),
-    ("-$(params.x[*])", true, "bad reference", ""),
+/// A text, whether `[*]` may be the whole of it, and what is wrong with it.
+const CHECKED: [(&str, bool, &str); 4] = [
+    ("$(params.x[*])", true, "good"),
+    ("$(params.x[*])", false, "wrong $(params.x[*])"),
+    ("$(params.x)$(params.q)", true, "unknown $(params.q)"),
+    ("-$(params.x[*])", true, "bad 1"),
 ];
 
 #[test]
 fn checks_texts(rt: HostRuntime) -> Result<(), Fail> {
     let alloc = rt.alloc();
     let scope = scope(alloc)?;
-    for (text, whole, kind, reference) in CHECKED {
-        let checked = check_text(alloc, text, &scope, whole);
-        let (found, spelling) = fault(&checked);
-        assert_eq!(rt; found, kind, "{text}");
-        assert_eq!(rt; spelling, reference, "{text}");
+    for (text, whole, want) in CHECKED {
+        let found = fault(alloc, check_text(alloc, text, &scope, whole))?;
+        assert_eq!(rt; found.as_str(), want, "{text}");
     }
     Ok(())
+}
+
+/// What is wrong with a text by an index of the scope.
+fn indexed_fault(alloc: Global, scope: &Scope, text: &str) -> Result<String, AllocError> {
+    let names = ScopeNames::new(alloc, scope)?;
+    fault(alloc, names.check(alloc, text, false))
 }
 
 #[test]
 fn checks_by_an_index(rt: HostRuntime) -> Result<(), Fail> {
     let alloc = rt.alloc();
     let scope = scope(alloc)?;
-    let names = ScopeNames::new(alloc, &scope)?;
-    let checked = names.check(alloc, "$(params.q)", false);
-    let (found, spelling) = fault(&checked);
-    assert_eq!(rt; found, "unknown");
-    assert_eq!(rt; spelling, "$(params.q)");
+    let found = indexed_fault(alloc, &scope, "$(params.q)")?;
+    assert_eq!(rt; found.as_str(), "unknown $(params.q)");
     Ok(())
 }
