@@ -26,6 +26,21 @@ dotted_object = refl
 longest_object : is_object_name (replicate 253 97) ≡ true
 longest_object = refl
 
+too_long_object : is_object_name (replicate 254 97) ≡ false
+too_long_object = refl
+
+longest_prefix : is_name_prefix (replicate 248 97) ≡ true
+longest_prefix = refl
+
+too_long_prefix : is_name_prefix (replicate 249 97) ≡ false
+too_long_prefix = refl
+
+no_object : is_object_name [] ≡ false
+no_object = refl
+
+no_prefix : is_name_prefix [] ≡ false
+no_prefix = refl
+
 dash_last_in_prefix : is_name_prefix (codes "build-") ≡ true
 dash_last_in_prefix = refl
 

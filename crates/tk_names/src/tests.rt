@@ -75,3 +75,32 @@ fn decides_the_rules(rt: HostRuntime) {
         assert_eq!(rt; found, want, "{what}");
     }
 }
+
+/// A number of bytes, and whether so many letters are an object's name and a prefix.
+const EDGES: [(usize, bool, bool); 6] = [
+    (0, false, false),
+    (1, true, true),
+    (248, true, true),
+    (249, true, false),
+    (253, true, false),
+    (254, false, false),
+];
+
+#[test]
+fn counts_the_bytes_of_names(rt: HostRuntime) -> Result<(), Fail> {
+    let alloc = rt.alloc();
+    for (bytes, object, prefix) in EDGES {
+        let name = "a".repeat(alloc, bytes)?;
+        assert_eq!(rt;
+            is_object_name(name.as_str()),
+            object,
+            "{bytes} bytes of a name"
+        );
+        assert_eq!(rt;
+            is_name_prefix(name.as_str()),
+            prefix,
+            "{bytes} bytes of a prefix"
+        );
+    }
+    Ok(())
+}
