@@ -5,6 +5,7 @@ ghost use Rattle.std.specs.Prelude.{◌≡◌, [], ◌∷◌, All, IfOk};
 ghost use Rattle.tk_types.specs.Value.{value_texts};
 ghost use Rattle.tk_bind.specs.Readings.{ReadsMatrix, ReadsParams, ReadsStep};
 
+use crate::lookup::index_of;
 use crate::{
     Env, Given, Lookup, SubstituteError, fits, matrix_in, substitute, substitute_list,
     substitute_value,
@@ -195,7 +196,8 @@ fn matrix_told(alloc: Global, made: &Option<Option<Matrix>>) -> Result<String, A
 
 fn in_matrix(alloc: Global, words: &str, env: &Env) -> Result<String, ScanError> {
     let matrix = Some(matrix(alloc, words)?);
-    let lookup = Lookup::new(alloc, env)?;
+    let index = index_of(alloc, env)?;
+    let lookup = Lookup::new(&index, &[]);
     let made = matrix_in(alloc, &lookup, &matrix)?;
     Ok(matrix_told(alloc, &made)?)
 }
