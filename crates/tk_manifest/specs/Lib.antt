@@ -1,3 +1,7 @@
+pub mod Input
+pub mod Item
+pub mod Kind
+pub mod Outcomes
 pub mod Parameter
 pub mod Pipeline
 pub mod Run
