@@ -1,6 +1,7 @@
 pub mod Input
 pub mod Item
 pub mod Kind
+pub mod Laws
 pub mod Outcomes
 pub mod Parameter
 pub mod Pipeline

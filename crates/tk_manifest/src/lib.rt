@@ -10,12 +10,15 @@
 mod input;
 mod item;
 mod kinds;
+pub mod laws;
 mod names;
 mod outcomes;
 mod parameter;
 mod pipeline;
 mod run;
 mod task;
+#[cfg(test)]
+mod tests;
 mod workspace;
 
 pub use input::read_objects;
