@@ -1,3 +1,6 @@
 pub mod Examples
+pub mod Fine
+pub mod FineInput
+pub mod FineSpecs
 pub mod InOrder
 pub mod Texts
