@@ -15,6 +15,7 @@ use Rattle.tk_types.specs.declared.run.Child.{Child}
 use Rattle.tk_bind.specs.Substitute.{as_text}
 use Rattle.tk_bind.specs.declared.env.Given.{Given}
 use Rattle.tk_verdict.specs.Facts.{all_ended, children_of, is_good}
+use Rattle.tk_verdict.specs.GivenResults.{given}
 use Rattle.tk_verdict.specs.Available.{available, available_of, by_index, candidates, emitted, emitted_texts}
 
 found-cond : {X Y : Type 0} (f : X → Y) (b : Bool) (x : X) (rest : Option Y) (found : Option X) → rest ≡ option_map f found → cond b (Some (f x)) rest ≡ option_map f (cond b (Some x) found)
@@ -29,10 +30,6 @@ find-map f test (x ∷ xs) = found-cond f (test (f x)) x (find test (map f xs)) 
 pub value_found : {X : Type 0} (param : X → Param) (name : List ℕ) (xs : List X) (found : Option X) → found ≡ find (λ x. bytes_eq (param x).name name) xs → value_named name (map param xs) ≡ option_map (λ (p : Param). p.value) (option_map param found)
 value_found param name xs found is =
     ap (option_map (λ (p : Param). p.value)) (find-map param (λ (p : Param). bytes_eq p.name name) xs ∙ ap (option_map param) (sym is))
-
--- a result of a task
-abbrev pub given : List ℕ → List ℕ → Value → Given
-given task name value = record { task = task; name = name; value = value }
 
 -- what is copied of the first that has the name
 pub first_given : {X : Type 0} (param : X → Param) (xs : List X) (x : X) (task name t n m : List ℕ) (v : Value) → Some x ≡ find (λ x. bytes_eq (param x).name m) xs → m ≡ name → t ≡ task → n ≡ name → v ≡ (param x).value

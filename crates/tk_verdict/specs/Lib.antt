@@ -4,6 +4,7 @@ pub mod Condition
 pub mod Facts
 pub mod Failures
 pub mod Gathered
+pub mod GivenResults
 pub mod Gives
 pub mod Good
 pub mod Labels

@@ -1,13 +1,13 @@
-ghost use Rattle.std.specs.Prelude.{◌≡◌, ◌≤◌, ◌<◌, ◌+◌, ◌^◌, ◌++◌, ℕ, [], filter_map, flat_map, length, map, take, option_and_then, option_copied, option_map, IfOk, OnOk};
+ghost use Rattle.std.specs.Prelude.{◌≡◌, ◌≤◌, ◌<◌, ◌+◌, ◌^◌, ◌++◌, ℕ, [], flat_map, length, map, take, option_and_then, option_copied, option_map, IfOk, OnOk};
 ghost use Rattle.std.specs.List.{cons_option, enumerate_from};
 ghost use Rattle.tk_types.specs.declared.run.Facts.{Facts as FactsRecord};
-ghost use Rattle.tk_types.specs.declared.value.Param.{Param as ParamRecord};
 ghost use Rattle.tk_types.specs.declared.value.Value.TheVariants.{Arr};
 ghost use Rattle.tk_types.specs.Lists.{all_some};
 ghost use Rattle.tk_types.specs.Value.{value_named};
 ghost use Rattle.tk_bind.specs.Substitute.{as_text};
 ghost use Rattle.tk_verdict.specs.Facts.{all_ended, children_of, is_good, task_total};
 ghost use Rattle.tk_verdict.specs.Available.{available_of, available_results, emitted as results_of};
+ghost use Rattle.tk_verdict.specs.GivenResults.{firsts_given, given, lists_given};
 
 use crate::emitted::{EmittedResult, all_emitted, emitted, indexes};
 use crate::groups::Groups;
@@ -34,7 +34,7 @@ fn first_given(
     index: &FirstNamed<EmittedResult>,
     name: &Text,
 ) -> Result<Option<Given>, AllocError>
-    ensures { IfOk result (λ given. given ≡ option_map (λ value. record { task = task.now; name = name.now; value = value }) (value_named name.now (map (λ result. result.param.now) index.now))) }
+    ensures { IfOk result (λ made. made ≡ option_map (given task.now name.now) (value_named name.now (map (λ result. result.param.now) index.now))) }
 {
     match index.get(name.as_str()) {
         Some(first) => Ok(Some(Given {
@@ -53,7 +53,7 @@ fn add_first(
     task: &Text,
     children: &[&Child],
 ) -> Result<(), AllocError>
-    ensures { OnOk result (made.new ≡ made.old ++ filter_map (λ (p : ParamRecord). option_map (λ value. record { task = task.now; name = p.name; value = value }) (value_named p.name (flat_map results_of (map (λ child. child.now) children.now)))) (flat_map results_of (map (λ child. child.now) children.now))) }
+    ensures { OnOk result (made.new ≡ made.old ++ firsts_given task.now (map (λ child. child.now) children.now)) }
 {
     let all = all_emitted(alloc, children)?;
     let index = FirstNamed::new(alloc, all.as_slice())?;
@@ -102,7 +102,7 @@ fn list_given(
     indexes: &[FirstNamed<Param>],
     name: &Text,
 ) -> Result<Option<Given>, AllocError>
-    ensures { IfOk result (λ given. given ≡ option_map (λ value. record { task = task.now; name = name.now; value = value }) (option_map Arr (all_some (map (λ params. option_and_then as_text (value_named name.now params)) indexes.now)))) }
+    ensures { IfOk result (λ made. made ≡ option_map (given task.now name.now) (option_map Arr (all_some (map (λ params. option_and_then as_text (value_named name.now params)) indexes.now)))) }
 {
     match texts_named(alloc, indexes, name.as_str())? {
         Some(texts) => Ok(Some(Given {
@@ -131,7 +131,7 @@ fn add_lists(
     task: &Text,
     children: &[&Child],
 ) -> Result<(), AllocError>
-    ensures { OnOk result (made.new ≡ made.old ++ filter_map (λ (p : ParamRecord). option_map (λ value. record { task = task.now; name = p.name; value = value }) (option_map Arr (all_some (map (λ c. option_and_then as_text (value_named p.name (results_of c))) (map (λ child. child.now) children.now))))) (flat_map results_of (take 1 (map (λ child. child.now) children.now)))) }
+    ensures { OnOk result (made.new ≡ made.old ++ lists_given task.now (map (λ child. child.now) children.now)) }
 {
     let indexes = indexes(alloc, children)?;
     for param in of_first(children) {

@@ -1,7 +1,8 @@
 use Rattle.std.proofs.Common.{List, ◌∙◌, ap, map, option_map, sym}
 use Rattle.tk_types.specs.Value.{value_named}
 use Rattle.tk_verdict.specs.declared.emitted.EmittedResult.{EmittedResult}
-use Rattle.tk_verdict.proofs.AvailableFacts.{all_first, filter_map_more, given}
+use Rattle.tk_verdict.proofs.AvailableFacts.{all_first, filter_map_more}
+use Rattle.tk_verdict.specs.GivenResults.{given}
 use Rattle.tk_verdict.proofs.available.add_first.Goals as goal
 
 pub loop-result-preserved : goal.loop-result-preserved

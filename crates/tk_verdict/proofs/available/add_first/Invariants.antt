@@ -1,7 +1,7 @@
 use Rattle.std.proofs.Common.{◌≡◌, ◌++◌, map, take, filter_map, option_map}
 use Rattle.tk_types.specs.Value.{value_named}
 use Rattle.tk_verdict.specs.declared.emitted.EmittedResult.{EmittedResult}
-use Rattle.tk_verdict.proofs.AvailableFacts.{given}
+use Rattle.tk_verdict.specs.GivenResults.{given}
 use Rattle.tk_verdict.proofs.available.add_first.Given as goal
 
 -- the available results so far are added

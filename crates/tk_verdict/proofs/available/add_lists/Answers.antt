@@ -6,7 +6,8 @@ use Rattle.tk_types.specs.declared.value.Value.TheVariants.{Arr}
 use Rattle.tk_types.specs.Lists.{all_some}
 use Rattle.tk_types.specs.Value.{value_named}
 use Rattle.tk_bind.specs.Substitute.{as_text}
-use Rattle.tk_verdict.proofs.AvailableFacts.{all_lists, filter_map_more, given}
+use Rattle.tk_verdict.proofs.AvailableFacts.{all_lists, filter_map_more}
+use Rattle.tk_verdict.specs.GivenResults.{given}
 use Rattle.tk_verdict.proofs.available.add_lists.Goals as goal
 use denote.Bor.{Bor}
 

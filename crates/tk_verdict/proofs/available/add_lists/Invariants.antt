@@ -5,7 +5,7 @@ use Rattle.tk_types.specs.declared.value.Value.TheVariants.{Arr}
 use Rattle.tk_types.specs.Lists.{all_some}
 use Rattle.tk_types.specs.Value.{value_named}
 use Rattle.tk_bind.specs.Substitute.{as_text}
-use Rattle.tk_verdict.proofs.AvailableFacts.{given}
+use Rattle.tk_verdict.specs.GivenResults.{given}
 use Rattle.tk_verdict.proofs.available.add_lists.Given as goal
 
 -- the available results so far are added
