@@ -1,4 +1,4 @@
-ghost use Rattle.std.specs.Prelude.{◌≡◌, ◌≤◌, ◌<◌, ◌+◌, ◌^◌, ◌++◌, ℕ, [], flat_map, length, map, take, option_and_then, option_copied, option_map, IfOk, OnOk};
+ghost use Rattle.std.specs.Prelude.{◌≡◌, ◌<◌, ◌+◌, ◌^◌, ◌++◌, ℕ, [], flat_map, length, map, take, option_and_then, option_copied, option_map, IfOk, OnOk};
 ghost use Rattle.std.specs.List.{cons_option, enumerate_from};
 ghost use Rattle.tk_types.specs.declared.run.Facts.{Facts as FactsRecord};
 ghost use Rattle.tk_types.specs.declared.value.Value.TheVariants.{Arr};

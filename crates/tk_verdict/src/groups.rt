@@ -1,4 +1,4 @@
-ghost use Rattle.std.specs.Prelude.{◌≡◌, ◌<◌, ℕ, [], length, map, nat_lt, replicate, slice_index_or, IfOk, IsTrue};
+ghost use Rattle.std.specs.Prelude.{◌≡◌, ℕ, [], map, nat_lt, replicate, slice_index_or, IfOk, IsTrue};
 ghost use Rattle.std.specs.List.{list_all};
 ghost use Rattle.tk_types.specs.declared.run.Child.{Child as ChildRecord};
 ghost use Rattle.tk_verdict.specs.Facts.{children_at};
