@@ -29,54 +29,7 @@ use Rattle.tk_graph.specs.Unknown.{is_known}
 use Rattle.tk_verdict.specs.Facts.{all_tasks}
 use Rattle.tk_vars.specs.Reading.{HasReading}
 use Rattle.std.proofs.Common.{ap, subst, arith}
-
--- a body that runs `true`, for each task
-abbrev body : TaskBody
-body =
-    let step : Step = record { name = None; command = codes "true" ∷ []; args = []; script = None; env = []; dir = None; keep_going = false } in
-    let spec : TaskSpec = record { params = []; steps = step ∷ []; results = []; spaces = [] } in
-    record { spec = spec; task_name = []; outer = []; fallback = []; bound = [] }
-
-abbrev bodies : List PipelineTask → List TaskBody
-bodies [] = []
-bodies (task ∷ tasks) = body ∷ bodies tasks
-
--- a task of a name, with parameters, behind others
-abbrev task : List ℕ → List Param → List (List ℕ) → PipelineTask
-task name params run_after =
-    record { name = name; source = Named []; params = params; matrix = None; run_after = run_after; when = []; retries = 0; timeout = 0; ignore_failure = false; spaces = [] }
-
--- the same behind a guard that is false
-abbrev guarded : PipelineTask → PipelineTask
-guarded t = record t { when = record { input = codes "x"; is_member = true; values = [] } ∷ [] }
-
-abbrev run : List PipelineTask → List PipelineTask → List Stop → List Child → Facts
-run tasks finally stops children =
-    let spec : RunSpec = record {
-      name = codes "r";
-      pipeline = codes "p";
-      params = [];
-      tasks = tasks;
-      finally = finally;
-      bodies = bodies (tasks ++ finally);
-      results = [];
-      pipeline_ms = 3600000;
-      tasks_ms = 0;
-      finally_ms = 0;
-      start = Startable;
-    } in
-    record { spec = spec; stops = stops; children = children }
-
--- the first child of a task, that runs, and that ended with a result `x`
-abbrev runs : ℕ → Child
-runs place = record { task = place; index = 0; outcome = None }
-
-abbrev ended : ℕ → List ℕ → Child
-ended place text = record { task = place; index = 0; outcome = Some (Succeeded (record { name = codes "x"; value = Str text } ∷ [])) }
-
--- a parameter `v` with a text
-abbrev with_text : List ℕ → List Param
-with_text text = record { name = codes "v"; value = Str text } ∷ []
+use Rattle.tk_verdict.proofs.SmallRuns.{body, bodies, ended, guarded, run, runs, task, with_text}
 
 -- A matrix with neither lists nor include entries: its task is given no binding, and stays Ready.
 

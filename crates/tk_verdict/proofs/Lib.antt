@@ -30,6 +30,8 @@ pub mod Rounds
 pub mod SameResults
 pub mod SameValues
 pub mod SortedFacts
+pub mod SmallRuns
 pub mod Steps
 pub mod TaskLine
 pub mod Walking
+pub mod WorkedRows
