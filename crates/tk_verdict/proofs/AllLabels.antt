@@ -1,6 +1,6 @@
 -- Right labels of `tasks` with those of `finally` behind them are right.
 use Rattle.std.proofs.Common.{◌≡◌, ℕ, zero, suc, ◌+◌, ◌-◌, ◌<◌, ◌≤◌, List, [], ◌∷◌, ◌++◌, map, length, get_or, take, refl, sym, ap, ◌∙◌, zero-add, arith, inl, inr}
-use Rattle.std.specs.Prelude.{Option, None, Contains, slice_get}
+use Rattle.std.specs.Prelude.{Option, slice_get}
 use Rattle.std.specs.List.{range_with_len}
 use Rattle.std.specs.Option.{option_map_or}
 use Rattle.std.proofs.lemmas.Bool.{cases_lt}
@@ -12,8 +12,6 @@ use Rattle.tk_types.specs.declared.task.PipelineTask.{PipelineTask}
 use Rattle.tk_types.specs.declared.run.Facts.{Facts}
 use Rattle.tk_types.specs.declared.verdict.Verdict.{Verdict}
 use Rattle.tk_types.specs.declared.verdict.Verdict.TheVariants.{Waits}
-use Rattle.tk_graph.specs.Parents.{parents}
-use Rattle.tk_verdict.specs.Facts.{task_total}
 use Rattle.tk_verdict.specs.Gathered.{final_line}
 use Rattle.tk_verdict.specs.Labels.{finally_line, labelled_parents, task_line, verdict_line, IsRight}
 use Rattle.tk_verdict.specs.Verdict.{label_at}

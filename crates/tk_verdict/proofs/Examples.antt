@@ -1,19 +1,11 @@
 -- Facts that show what fails without a premise of the laws.
-use Rattle.std.specs.Prelude.{◌≡◌, ◌≢◌, ◌<◌, refl, ℕ, zero, suc, Contains, IsTrue, slice_index, slice_index_or, bytes_eq, List, [], ◌∷◌, ◌++◌, Some, None, true, false, codes}
-use Rattle.tk_types.specs.declared.value.Param.{Param}
-use Rattle.tk_types.specs.declared.value.Value.TheVariants.{Str}
+use Rattle.std.specs.Prelude.{◌≡◌, ◌≢◌, ◌<◌, refl, ℕ, zero, suc, Contains, IsTrue, slice_index, slice_index_or, bytes_eq, List, [], ◌∷◌, Some, true, false, codes}
 use Rattle.tk_types.specs.declared.run.Child.{Child}
 use Rattle.tk_types.specs.declared.run.Facts.{Facts}
 use Rattle.tk_types.specs.declared.run.Outcome.{Outcome}
 use Rattle.tk_types.specs.declared.run.Outcome.TheVariants.{Succeeded, Lost}
-use Rattle.tk_types.specs.declared.run.RunSpec.{RunSpec}
-use Rattle.tk_types.specs.declared.run.Start.TheVariants.{Ready as Startable}
 use Rattle.tk_types.specs.declared.run.Stop.{Stop}
 use Rattle.tk_types.specs.declared.run.Stop.TheVariants.{Failure, Cancelled}
-use Rattle.tk_types.specs.declared.task.Step.{Step}
-use Rattle.tk_types.specs.declared.task.TaskBody.{TaskBody}
-use Rattle.tk_types.specs.declared.task.TaskSpec.{TaskSpec}
-use Rattle.tk_types.specs.declared.task.TaskSource.TheVariants.{Named}
 use Rattle.tk_types.specs.declared.task.PipelineTask.{PipelineTask}
 use Rattle.tk_types.specs.declared.task.When.{When as Guard}
 use Rattle.tk_types.specs.declared.verdict.SkipReason.TheVariants.{Broken, When, Stopped}
@@ -29,7 +21,7 @@ use Rattle.tk_graph.specs.Unknown.{is_known}
 use Rattle.tk_verdict.specs.Facts.{all_tasks}
 use Rattle.tk_vars.specs.Reading.{HasReading}
 use Rattle.std.proofs.Common.{ap, subst, arith}
-use Rattle.tk_verdict.proofs.SmallRuns.{body, bodies, ended, guarded, run, runs, task, with_text}
+use Rattle.tk_verdict.proofs.SmallRuns.{ended, guarded, run, runs, task, with_text}
 
 -- A matrix with neither lists nor include entries: its task is given no binding, and stays Ready.
 

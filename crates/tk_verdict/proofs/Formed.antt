@@ -1,5 +1,5 @@
 -- What well-formed facts give.
-use Rattle.std.proofs.Common.{◌≡◌, ℕ, ◌<◌, Bool, true, List, [], ◌∷◌, ◌++◌, map, length, get_or, refl, sym, ap, ◌∙◌, subst, arith}
+use Rattle.std.proofs.Common.{◌≡◌, List, [], ◌∷◌, ◌++◌, map, get_or, subst}
 use Rattle.std.specs.Prelude.{All, Option, Some, None, IsTrue, flat_map, option_to_list}
 use Rattle.std.specs.List.{list_all}
 use Rattle.std.specs.Option.{ForSome}
@@ -19,11 +19,11 @@ use Rattle.tk_graph.specs.Parents.{parent_names}
 use Rattle.tk_graph.specs.Results.{guards_texts, matrix_texts, params_texts, task_texts, when_texts}
 use Rattle.tk_graph.specs.Unknown.{is_known}
 use Rattle.tk_bind.specs.Fits.{step_elements, step_single_texts, step_texts}
-use Rattle.tk_bind.specs.Readings.{ReadsMatrix, ReadsParam, ReadsParams, ReadsStep}
+use Rattle.tk_bind.specs.Readings.{ReadsMatrix, ReadsParams, ReadsStep}
 use Rattle.tk_verdict.specs.Facts.{all_tasks}
 use Rattle.tk_verdict.specs.Gathered.{IsReadable}
 use Rattle.tk_verdict.specs.Readings.{ReadsBody, ReadsGuard, ReadsTask}
-use Rattle.tk_verdict.specs.WellFormed.{facts_texts, HasParents, IsWellFormed}
+use Rattle.tk_verdict.specs.WellFormed.{HasParents, IsWellFormed}
 
 module _ {X : Type 0} (P : X → Type 0) where
   pub front : (xs ys : List X) → All P (xs ++ ys) → All P xs

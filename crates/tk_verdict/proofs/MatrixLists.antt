@@ -1,5 +1,5 @@
 -- A matrix whose references are substituted has lists alone.
-use Rattle.std.proofs.Common.{◌≡◌, ◌&&◌, Bool, true, false, List, [], ◌∷◌, map, Option, Some, None, refl, sym, ap, ◌∙◌, subst}
+use Rattle.std.proofs.Common.{◌≡◌, ◌&&◌, Bool, true, List, [], ◌∷◌, map, Option, Some, None, refl, sym, ap, ◌∙◌, subst}
 use Rattle.std.specs.Prelude.{ℕ, option_map, option_and_then}
 use Rattle.std.specs.List.{list_all}
 use Rattle.tk_types.specs.declared.value.Param.{Param}

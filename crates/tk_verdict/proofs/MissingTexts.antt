@@ -4,11 +4,10 @@ use Rattle.std.specs.Prelude.{All, flat_map, filter_map, is_none}
 use Rattle.std.specs.List.{list_any, cons_option}
 use Rattle.std.specs.Option.{option_map_or}
 use Rattle.std.proofs.lemmas.List.Folds.{list_any-append}
-use Rattle.std.proofs.lemmas.List.Elements.{All-head, All-tail}
+use Rattle.std.proofs.lemmas.List.Elements.{All-tail}
 use Rattle.tk_vars.specs.declared.piece.Piece.{Piece}
 use Rattle.tk_vars.specs.declared.piece.Piece.TheVariants.{Plain, Ref}
 use Rattle.tk_vars.specs.declared.reference.Reference.{Reference}
-use Rattle.tk_vars.specs.Offset.{bad_offset}
 use Rattle.tk_vars.specs.Reading.{HasReading, pieces_of}
 use Rattle.tk_vars.specs.Target.{Target, param, result, word, target_of, referenced}
 use Rattle.tk_vars.proofs.OffsetFacts.{bad_offset-none}

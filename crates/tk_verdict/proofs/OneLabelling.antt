@@ -1,6 +1,6 @@
 -- Any line that sees the labels of a task's parents, and for a task of `finally` those of `tasks`, has exactly one labelling that
 -- judges itself, and judging again and again finds it.
-use Rattle.std.proofs.Common.{◌≡◌, ℕ, ◌+◌, ◌<◌, ◌≤◌, List, length, get_or, take, map, replicate, sym, ◌∙◌, ap, inl, inr, cond, arith}
+use Rattle.std.proofs.Common.{◌≡◌, ℕ, ◌<◌, ◌≤◌, List, length, get_or, take, map, replicate, sym, ◌∙◌, ap, inl, inr, cond, arith}
 use Rattle.std.specs.Prelude.{Contains, slice_index, nat_lt, if◌then◌else◌}
 use Rattle.std.specs.List.{range_with_len}
 use Rattle.std.proofs.lemmas.Bool.{cases_lt, lt-ltb, le-ltb}

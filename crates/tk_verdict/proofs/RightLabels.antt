@@ -1,5 +1,5 @@
 -- An acyclic run has exactly one right labelling.
-use Rattle.std.proofs.Common.{◌≡◌, List, length, arith}
+use Rattle.std.proofs.Common.{◌≡◌, List, arith}
 use Rattle.tk_types.specs.declared.run.Facts.{Facts}
 use Rattle.tk_types.specs.declared.verdict.Verdict.{Verdict}
 use Rattle.tk_types.specs.declared.verdict.Verdict.TheVariants.{Waits}

@@ -1,5 +1,5 @@
 -- Worked rows: labels, bindings and conditions of small runs.
-use Rattle.std.specs.Prelude.{◌≡◌, refl, ℕ, List, [], ◌∷◌, Some, None, true, false, codes}
+use Rattle.std.specs.Prelude.{◌≡◌, refl, ℕ, List, [], ◌∷◌, Some, None, true, codes}
 use Rattle.tk_types.specs.declared.value.Param.{Param}
 use Rattle.tk_types.specs.declared.value.Value.TheVariants.{Str, Arr}
 use Rattle.tk_types.specs.declared.run.Child.{Child}
@@ -9,13 +9,12 @@ use Rattle.tk_types.specs.declared.run.Outcome.TheVariants.{Succeeded, Failed, T
 use Rattle.tk_types.specs.declared.run.Stop.{Stop}
 use Rattle.tk_types.specs.declared.run.Stop.TheVariants.{Failure, StoppedRunFinally, CancelledRunFinally, TasksTimeout, FinallyTimeout, Cancelled, PipelineTimeout}
 use Rattle.tk_types.specs.declared.task.PipelineTask.{PipelineTask}
-use Rattle.tk_types.specs.declared.verdict.Condition.{Condition}
 use Rattle.tk_types.specs.declared.verdict.SkipReason.TheVariants.{Parent, Missing, Broken, When, EmptyMatrix, Stopped}
 use Rattle.tk_types.specs.declared.verdict.Verdict.TheVariants.{Ran, Skipped, Runs, Ready, Waits, Wrong}
 use Rattle.tk_graph.specs.Results.{text_results}
-use Rattle.tk_verdict.specs.Condition.{condition_of, results_of, true_with, false_with}
+use Rattle.tk_verdict.specs.Condition.{condition_of, true_with, false_with}
 use Rattle.tk_verdict.specs.Labels.{labels_of, ready_bindings}
-use Rattle.tk_verdict.proofs.SmallRuns.{ended, guarded, run, runs, task, with_text}
+use Rattle.tk_verdict.proofs.SmallRuns.{guarded, run, runs, task, with_text}
 
 abbrev after : List ℕ → List (List ℕ) → PipelineTask
 after name names = task name [] names

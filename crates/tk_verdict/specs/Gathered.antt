@@ -10,7 +10,7 @@ use Rattle.tk_types.specs.declared.verdict.SkipReason.TheVariants.{Missing}
 use Rattle.tk_types.specs.declared.verdict.Verdict.{Verdict}
 use Rattle.tk_types.specs.declared.verdict.Verdict.TheVariants.{Waits}
 use Rattle.tk_bind.specs.declared.env.Env.{Env}
-use Rattle.tk_verdict.specs.Facts.{all_tasks, task_total}
+use Rattle.tk_verdict.specs.Facts.{task_total}
 use Rattle.tk_verdict.specs.Good.{AreGood}
 use Rattle.tk_verdict.specs.Labels.{finally_line}
 use Rattle.tk_verdict.specs.Own.{own_in, row_by}

@@ -1,5 +1,5 @@
 -- What a task's own texts give, and why they skip it.
-use Rattle.std.specs.Prelude.{Bool, false, not, ◌||◌, List, [], ◌∷◌, Option, is_none}
+use Rattle.std.specs.Prelude.{Bool, false, not, ◌||◌, [], ◌∷◌, Option, is_none}
 use Rattle.std.specs.List.{list_all}
 use Rattle.std.specs.Option.{option_map_or}
 use Rattle.tk_types.specs.declared.task.PipelineTask.{PipelineTask}

@@ -1,5 +1,5 @@
 -- The label of a task with children.
-use Rattle.std.specs.Prelude.{Bool, false, ◌&&◌, if◌then◌else◌, List, Option, is_none}
+use Rattle.std.specs.Prelude.{false, ◌&&◌, if◌then◌else◌, List, Option, is_none}
 use Rattle.std.specs.List.{list_any}
 use Rattle.std.specs.Option.{option_map_or}
 use Rattle.tk_types.specs.declared.value.Param.{Param}

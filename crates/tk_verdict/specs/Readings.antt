@@ -1,5 +1,5 @@
 -- What has a reading in each of its texts.
-use Rattle.std.specs.Prelude.{List, All}
+use Rattle.std.specs.Prelude.{All}
 use Rattle.std.specs.Option.{ForSome}
 use Rattle.tk_types.specs.declared.task.PipelineTask.{PipelineTask}
 use Rattle.tk_types.specs.declared.task.TaskBody.{TaskBody}

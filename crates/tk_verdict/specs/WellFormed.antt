@@ -1,7 +1,6 @@
 -- The facts of which the calls of this crate speak.
 use Rattle.std.specs.Prelude.{◌≡◌, ◌≢◌, ◌<◌, ◌^◌, ℕ, Bool, false, ◌&&◌, ◌==◌, nat_lt, List, ◌++◌, length, flat_map, All, AllPairs, IsTrue}
-use Rattle.std.specs.List.{list_any, list_all}
-use Rattle.std.specs.Prelude.{bytes_eq}
+use Rattle.std.specs.List.{list_all}
 use Rattle.tk_types.specs.declared.task.PipelineTask.{PipelineTask}
 use Rattle.tk_types.specs.declared.task.TaskBody.{TaskBody}
 use Rattle.tk_types.specs.declared.run.Facts.{Facts}

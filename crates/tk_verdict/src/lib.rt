@@ -1,5 +1,8 @@
-//! The decision of a run: the label of each task, judged against the labels of the others, and the run's condition. A
-//! labelling is right where each task has the label that the others' give it; an acyclic run has exactly one.
+//! The decision of a run, from its spec, its recorded stops and its children. `verdicts` gives the label of each task: a
+//! labelling is right where each task has the label that the others' give it, and an acyclic run has exactly one.
+//! `condition` gives the run's condition, `pipeline_results` its results, and `ready` the bindings of the children that a
+//! task is to get. The laws say that there is one labelling, what stays when the facts of a run move on, and that a run
+//! goes on until all is done.
 #![tactic(auto)]
 
 mod available;

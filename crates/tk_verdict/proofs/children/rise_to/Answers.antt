@@ -1,4 +1,4 @@
-use Rattle.std.proofs.Common.{sym, ap, ◌∙◌, arith}
+use Rattle.std.proofs.Common.{ap, ◌∙◌, arith}
 use Rattle.tk_types.specs.declared.run.Child.{Child}
 use Rattle.tk_verdict.proofs.Indexes.{all_rise, counts_differ, index_differs}
 use Rattle.tk_verdict.proofs.children.rise_to.Goals as goal

@@ -1,8 +1,6 @@
-use Rattle.std.proofs.Common.{◌≡◌, ℕ, ◌+◌, ◌++◌, List, map, length, Some, slice_get, subst, sym, ap, ◌∙◌, arith}
+use Rattle.std.proofs.Common.{◌≡◌, ℕ, ◌+◌, ◌++◌, map, length, Some, slice_get, subst, ap, ◌∙◌, arith}
 use Rattle.std.proofs.lemmas.Result.{IfOk-weaker}
-use Rattle.tk_types.specs.declared.value.Pair.{Pair}
 use Rattle.tk_types.specs.declared.run.Child.{Child}
-use Rattle.tk_bind.specs.declared.env.Env.{Env}
 use Rattle.tk_verdict.specs.Facts.{children_at}
 use Rattle.tk_verdict.specs.Readings.{ReadsBody, ReadsTask}
 use Rattle.tk_verdict.specs.Words.{finally_env}

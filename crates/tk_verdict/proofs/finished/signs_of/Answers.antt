@@ -1,6 +1,5 @@
-use Rattle.std.proofs.Common.{◌≡◌, ◌∙◌, ◌||◌, ap, List, Bool}
+use Rattle.std.proofs.Common.{◌≡◌, ◌∙◌, ◌||◌, ap, Bool}
 use Rattle.std.specs.List.{list_any}
-use Rattle.tk_types.specs.declared.run.Child.{Child}
 use Rattle.tk_types.specs.declared.run.Stop.{Stop}
 use Rattle.tk_verdict.specs.Condition.{has_failure, is_cancel, is_graceful, is_part_timeout, is_pipeline_timeout}
 use Rattle.tk_verdict.specs.Facts.{has_ended, is_cancelled}

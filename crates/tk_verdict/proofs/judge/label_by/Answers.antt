@@ -1,6 +1,5 @@
-use Rattle.std.proofs.Common.{◌≡◌, IfOk, subst, ◌∙◌, arith}
-use Rattle.tk_types.specs.declared.verdict.Verdict.{Verdict}
-use Rattle.tk_verdict.proofs.LabelParts.{without_children, of_children}
+use Rattle.std.proofs.Common.{◌∙◌}
+use Rattle.tk_verdict.proofs.LabelParts.{without_children}
 use Rattle.tk_verdict.proofs.judge.label_by.Goals as goal
 
 pub returns-in-empty : goal.returns-in-empty

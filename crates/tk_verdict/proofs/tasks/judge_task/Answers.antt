@@ -1,4 +1,4 @@
-use Rattle.std.proofs.Common.{◌≡◌, Bool, IfOk, List, Option, map, slice_get, sym, subst, ap, ◌∙◌, arith}
+use Rattle.std.proofs.Common.{List, map, slice_get, ap, ◌∙◌, arith}
 use Rattle.std.proofs.lemmas.Result.{IfOk-weaker}
 use Rattle.tk_types.specs.declared.run.Child.{Child}
 use Rattle.tk_types.specs.declared.run.Stop.{Stop}

@@ -1,4 +1,4 @@
-use Rattle.std.proofs.Common.{◌≡◌, ◌<◌, ◌∙◌, ap, sym, subst, length, get_or, List, ℕ, arith}
+use Rattle.std.proofs.Common.{◌≡◌, ◌∙◌, ap, sym, subst, length, get_or, List, ℕ, arith}
 use Rattle.tk_types.specs.declared.verdict.Verdict.{Verdict}
 use Rattle.tk_verdict.specs.declared.sequence.Ranked.{Ranked}
 use Rattle.tk_verdict.specs.Labels.{verdict_line}
