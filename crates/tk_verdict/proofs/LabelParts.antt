@@ -1,5 +1,5 @@
 -- A label by whether there are children.
-use Rattle.std.proofs.Common.{◌≡◌, ◌<◌, ◌≤◌, List, [], ◌∷◌, length, map, refl, arith}
+use Rattle.std.proofs.Common.{◌≡◌, ◌<◌, List, [], ◌∷◌, length, map, refl, arith}
 use Rattle.std.specs.Prelude.{Option}
 use Rattle.tk_types.specs.declared.value.Param.{Param}
 use Rattle.tk_types.specs.declared.run.Child.{Child}
