@@ -1,10 +1,10 @@
--- The facts of an input of the first form are well formed and plain.
+-- The facts of an input of the first form are well formed.
 use Rattle.std.proofs.Common.{◌≡◌, ◌≢◌, ℕ, zero, suc, ◌+◌, ◌-◌, ◌<◌, ◌≤◌, ◌==◌, Bool, true, false, ◌&&◌, ◌||◌, cond, List, [], ◌∷◌, ◌++◌, length, map, get_or, refl, sym, ap, subst, ◌∙◌, add-zero, Some, None, arith}
-use Rattle.std.specs.Prelude.{Option, Err, AllPairs, filter, slice_get, unwrap_or, bytes_eq, nat_lt}
+use Rattle.std.specs.Prelude.{Option, Err, All, AllPairs, IsTrue, filter, slice_get, unwrap_or, bytes_eq, nat_lt}
 use Rattle.std.specs.List.{list_any, list_all, enumerate_from}
 use Rattle.std.proofs.lemmas.Bool.{ne_eqb, lt-ltb}
 use Rattle.std.proofs.lemmas.List.{append-nil, length-map}
-use Rattle.std.proofs.lemmas.List.Sums.{AllPass-from_list_all}
+use Rattle.std.proofs.lemmas.List.Sums.{AllPass-from_list_all, list_all-from_AllPass}
 use Rattle.std.proofs.lemmas.Slice.Eq.{bytes_eq-Decides}
 use Rattle.tk_types.specs.declared.object.OutcomesChild.{OutcomesChild}
 use Rattle.tk_types.specs.declared.run.Child.{Child}
@@ -17,13 +17,13 @@ use Rattle.tk_types.specs.Place.{root}
 use Rattle.tk_types.specs.Rejected.{IsRefusal}
 use Rattle.tk_types.specs.declared.task.PipelineTask.{PipelineTask}
 use Rattle.tk_names.specs.Clash.{clash, DifferBelow}
-use Rattle.tk_graph.specs.Parents.{IsAcyclic, IsRanking}
+use Rattle.tk_graph.specs.Parents.{parent_names, IsAcyclic, IsRanking}
 use Rattle.tk_graph.specs.Unknown.{first_unknown, is_known}
-use Rattle.tk_verdict.specs.Plain.{IsPlain}
-use Rattle.tk_verdict.specs.WellFormed.{is_same_child, IsWellFormed}
+use Rattle.tk_verdict.specs.WellFormed.{facts_texts, is_same_child, HasParents, IsWellFormed}
 use Rattle.tkn.specs.declared.form.document.Input.{Input}
-use Rattle.tkn.specs.Form.{child_names, plain, task_names}
+use Rattle.tkn.specs.Form.{child_names, plain, refers_to_nothing, task_names}
 use Rattle.tkn.proofs.Accepting.{and-parts, and-true, cond_some}
+use Rattle.tkn.proofs.NoReference.{reads-nothing}
 use Rattle.tkn.specs.Judged.{body_of, child_in, facts_of, has_known_children, judged, or_else, order_finding, place_of, run_spec_of, IsChecked, Refuses}
 
 -- an element of a mapped list
@@ -140,9 +140,16 @@ tasks_apart tasks apart = rw (append-nil tasks) (λ i j d lt below e.
     apart i j lt (rw (length-map tasks (λ (t : PipelineTask). t.name)) below)
     (map_at (λ (t : PipelineTask). t.name) tasks i [] d (omega (arith, below)) ∙ (e ∙ sym (map_at (λ (t : PipelineTask). t.name) tasks j [] d below))))
 
+-- each name of a parent is known
+abbrev KnownParents : List PipelineTask → Type 0
+KnownParents tasks = All (λ (task : PipelineTask). All (λ (name : List ℕ). IsTrue (is_known tasks name)) (parent_names task)) tasks
+
+parents_known : (input : Input) → KnownParents input.run.tasks → HasParents (facts_of input)
+parents_known input known = rw (append-nil input.run.tasks) (λ i d lt. list_all-from_AllPass (is_known input.run.tasks) (parent_names (get_or input.run.tasks i d)) (known i d lt))
+
 pub facts_are_well_formed : (input : Input) → IsChecked input → DifferBelow (task_names input.run.tasks) (length (task_names input.run.tasks))
     → DifferBelow (child_names input.outcomes.children) (length (child_names input.outcomes.children))
-    → has_known_children input ≡ true → first_unknown input.run.tasks ≡ None → IsAcyclic input.run.tasks → IsWellFormed (facts_of input)
+    → has_known_children input ≡ true → KnownParents input.run.tasks → IsAcyclic input.run.tasks → IsWellFormed (facts_of input)
 facts_are_well_formed input checked tasks_differ children_differ known parents acyclic =
     record {
       few_tasks = omega (arith, checked.few_tasks);
@@ -150,24 +157,24 @@ facts_are_well_formed input checked tasks_differ children_differ known parents a
       children_exist = places_exist input known;
       names_differ = tasks_apart input.run.tasks tasks_differ;
       one_body_each = length-map input.run.tasks body_of ∙ sym (add-zero (length input.run.tasks));
-      parents_exist = parents;
+      parents_exist = parents_known input parents;
       acyclic = acyclic;
+      readable = λ i d lt.
+          reads-nothing (get_or (facts_texts (facts_of input)) i d) (AllPass-from_list_all refers_to_nothing (facts_texts (facts_of input)) checked.refer_to_nothing i d lt);
     }
-
-pub facts_are_plain : (input : Input) → IsChecked input → IsPlain (facts_of input)
-facts_are_plain input checked = record { tasks = checked.plain; no_finally = refl; no_results = refl }
 
 -- facts that are read so are well formed
 pub read_facts_are_well_formed : (input : Input) (spec : RunSpec) (children : List Child) (tasks : List PipelineTask) (ranks : List ℕ) → IsChecked input
     → ((clash (task_names input.run.tasks) ≡ None) → DifferBelow (task_names input.run.tasks) (length (task_names input.run.tasks)))
     → ((clash (child_names input.outcomes.children) ≡ None) → DifferBelow (child_names input.outcomes.children) (length (child_names input.outcomes.children)))
+    → ((first_unknown input.run.tasks ≡ None) → KnownParents input.run.tasks)
     → has_known_children input ≡ true → tasks ≡ input.run.tasks → first_unknown tasks ≡ None → IsRanking tasks ranks
     → spec ≡ run_spec_of input.run → children ≡ map (child_in input.run.tasks) input.outcomes.children
     → IsWellFormed (record { spec = spec; stops = input.outcomes.stops; children = children })
-read_facts_are_well_formed input spec children tasks ranks checked tasks_differ children_differ known same parents ranking spec_is children_is =
+read_facts_are_well_formed input spec children tasks ranks checked tasks_differ children_differ parents_known known same parents ranking spec_is children_is =
     subst IsWellFormed (λ i. record { spec = sym spec_is i; stops = input.outcomes.stops; children = sym children_is i })
     (facts_are_well_formed input checked (tasks_differ checked.tasks_differ) (children_differ checked.children_differ) known
-    (subst (λ (ts : List PipelineTask). first_unknown ts ≡ None) same parents) (subst IsAcyclic same (ranks, ranking)))
+    (parents_known (subst (λ (ts : List PipelineTask). first_unknown ts ≡ None) same parents)) (subst IsAcyclic same (ranks, ranking)))
 
 -- what is found of the order is why the input is refused
 pub refuses_found : (input : Input) (e : Rejected) → has_known_children input ≡ true → (tasks : List PipelineTask) → tasks ≡ input.run.tasks → IsRefusal (order_finding tasks) e → Refuses (judged (Some input)) e

@@ -6,3 +6,4 @@ pub mod FormFacts
 pub mod Fronts
 pub mod KeysOf
 pub mod Lines
+pub mod NoReference

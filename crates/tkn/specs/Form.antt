@@ -1,5 +1,6 @@
 -- The first form of an input: which JSON values have it, and what they say.
-use Rattle.std.specs.Prelude.{ℕ, Bool, true, false, ◌&&◌, ◌==◌, nat_le, nat_lt, List, [], ◌∷◌, length, map, Option, Some, None, is_none, is_some, unwrap_or, option_and_then, codes, bytes_eq, if◌then◌else◌}
+use Rattle.std.specs.Prelude.{ℕ, Bool, true, false, ◌&&◌, ◌==◌, not, nat_le, nat_lt, List, [], ◌∷◌, length, map, Option, Some, None, is_none, is_some, unwrap_or, option_and_then, codes, bytes_eq, if◌then◌else◌}
+use Rattle.std.specs.List.{list_all}
 use Rattle.std.specs.Option.{option_map_or}
 use Rattle.serde_json.specs.Data.{Data}
 use Rattle.serde_json.specs.Find.{get, as_number, as_u64}
@@ -14,6 +15,7 @@ use Rattle.tk_types.specs.declared.task.Step.{Step}
 use Rattle.tk_types.specs.declared.task.TaskSpec.{TaskSpec}
 use Rattle.tk_types.specs.declared.task.TaskSource.TheVariants.{Inlined}
 use Rattle.tk_types.specs.declared.object.OutcomesSpec.{OutcomesSpec}
+use Rattle.tk_vars.specs.Reading.{must_stand_within}
 use Rattle.tk_names.specs.Clash.{clash}
 use Rattle.tk_names.specs.Rules.{is_dns_label, is_object_name}
 use Rattle.tk_verdict.specs.Facts.{level_of}
@@ -25,15 +27,24 @@ use Rattle.tkn.specs.Json.{at, elements, has_keys, is_list_of, is_text, list_of,
 abbrev pub is_between : ℕ → ℕ → ℕ → Bool
 is_between least most n = nat_le least n && nat_le n most
 
--- a step is a command of one or more texts
+-- no reference stands in the text, and none must
+abbrev pub refers_to_nothing : List ℕ → Bool
+refers_to_nothing text = not (must_stand_within text)
+
+-- a step is a command of one or more texts that refer to nothing
+abbrev pub command_of : Data → List (List ℕ)
+command_of d = list_of text_of (at (codes "command") d)
+
 abbrev pub is_step : Data → Bool
-is_step d = has_keys (codes "command" ∷ []) [] d && (is_list_of is_text (at (codes "command") d) && nat_lt 0 (length (elements (at (codes "command") d))))
+is_step d =
+    has_keys (codes "command" ∷ []) [] d
+    && (is_list_of is_text (at (codes "command") d) && (nat_lt 0 (length (command_of d)) && list_all refers_to_nothing (command_of d)))
 
 abbrev pub step_of : Data → Step
 step_of d =
     record {
       name = None;
-      command = list_of text_of (at (codes "command") d);
+      command = command_of d;
       args = [];
       script = None;
       env = [];

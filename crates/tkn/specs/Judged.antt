@@ -21,10 +21,10 @@ use Rattle.tk_names.specs.Clash.{clash}
 use Rattle.tk_graph.specs.Cycle.{cycle_of, left_of, name_at}
 use Rattle.tk_graph.specs.Index.{places_of_name}
 use Rattle.tk_graph.specs.Unknown.{first_unknown, is_known}
-use Rattle.tk_verdict.specs.Plain.{is_plain_task}
+use Rattle.tk_verdict.specs.WellFormed.{facts_texts}
 use Rattle.tkn.specs.declared.form.document.Input.{Input}
 use Rattle.tkn.specs.declared.form.document.Run.{Run}
-use Rattle.tkn.specs.Form.{child_names, task_names}
+use Rattle.tkn.specs.Form.{child_names, refers_to_nothing, task_names}
 
 -- the place of the task of a name
 abbrev pub place_of : List PipelineTask → List ℕ → ℕ
@@ -96,6 +96,6 @@ Refuses answer (FaultFound fault) = answer ≡ Err fault
 -- what the first form says of an input beside its names
 pub record IsChecked (input : Input) : Type 0 where
   pub few_tasks : length input.run.tasks ≤ 5000
-  pub plain : IsTrue (list_all is_plain_task input.run.tasks)
+  pub refer_to_nothing : IsTrue (list_all refers_to_nothing (facts_texts (facts_of input)))
   pub tasks_differ : clash (task_names input.run.tasks) ≡ None
   pub children_differ : clash (child_names input.outcomes.children) ≡ None

@@ -4,7 +4,6 @@ ghost use Rattle.tkn.specs.Due.{answer as answer_to, due_of, json_of};
 ghost use Rattle.tkn.specs.Form.{input_of};
 ghost use Rattle.tkn.specs.Judged.{judged as judged_input, IsChecked, Refuses};
 ghost use Rattle.tk_graph.specs.Parents.{IsRanking};
-ghost use Rattle.tk_verdict.specs.Plain.{IsPlain};
 ghost use Rattle.tk_verdict.specs.WellFormed.{IsWellFormed};
 ghost use Rattle.tkn.specs.Due.{decided as decided_facts};
 ghost use Rattle.tk_types.specs.Fault.{fault as fault_of};
@@ -46,7 +45,6 @@ fn checked(alloc: Global, value: &Value) -> Result<Option<Input>, AllocError>
 fn run_of(alloc: Global, value: &Value) -> Result<Judged, Rejected>
     ensures facts { IfOk result (λ run. judged_input (input_of (view value.now)) ≡ Ok run.facts) }
     ensures well_formed { IfOk result (λ run. IsWellFormed run.facts) }
-    ensures plain { IfOk result (λ run. IsPlain run.facts) }
     ensures ranking { IfOk result (λ run. IsRanking run.facts.spec.tasks run.ranks.list) }
     ensures refused { IfErr result (Refuses (judged_input (input_of (view value.now)))) }
 {
@@ -60,7 +58,6 @@ fn run_of(alloc: Global, value: &Value) -> Result<Judged, Rejected>
 /// What is due for a run.
 fn decided_run(alloc: Global, run: &Judged) -> Result<Due, AllocError>
     requires well_formed { IsWellFormed run.now.facts }
-    requires plain { IsPlain run.now.facts }
     requires ranking { IsRanking run.now.facts.spec.tasks run.now.ranks.list }
     ensures { IfOk result (λ due. due ≡ decided_facts run.now.facts) }
 {

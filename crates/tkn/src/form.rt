@@ -5,6 +5,7 @@ mod document;
 mod fields;
 mod keys;
 mod reading;
+mod references;
 mod step;
 mod stop;
 mod task;

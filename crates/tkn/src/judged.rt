@@ -6,13 +6,12 @@ ghost use Rattle.tk_types.specs.Rejected.{IsRefusal as IsFound};
 ghost use Rattle.tk_types.specs.declared.object.OutcomesChild.{OutcomesChild as C};
 ghost use Rattle.tk_graph.specs.Parents.{IsRanking};
 ghost use Rattle.tk_graph.specs.Unknown.{first_unknown, is_known};
-ghost use Rattle.tk_verdict.specs.Plain.{IsPlain};
 ghost use Rattle.tk_verdict.specs.WellFormed.{IsWellFormed};
 ghost use Rattle.tkn.specs.Judged.{body_of, child_in, facts_of, inlined_spec, judged as judged_input, order_finding, place_of as place_of_name, run_spec_of, tasks_place as place_of_tasks, IsChecked, Refuses};
 
 use crate::form::{Input, Run};
 use std::alloc::{AllocError, Global};
-use tk_graph::laws::acyclic;
+use tk_graph::laws::{acyclic, known_parents};
 use tk_graph::{Names, OrderError, Ranks, order};
 use tk_names::laws::clash_is_the_first;
 use tk_types::{
@@ -195,11 +194,11 @@ pub fn judge(alloc: Global, input: Input) -> Result<Judged, Rejected>
     requires checked { IsChecked input }
     ensures facts { IfOk result (λ run. judged_input (Some input) ≡ Ok run.facts) }
     ensures well_formed { IfOk result (λ run. IsWellFormed run.facts) }
-    ensures plain { IfOk result (λ run. IsPlain run.facts) }
     ensures ranking { IfOk result (λ run. IsRanking run.facts.spec.tasks run.ranks.list) }
     ensures refused { IfErr result (Refuses (judged_input (Some input))) }
 {
     clash_is_the_first();
+    known_parents();
     let Input { run, outcomes } = input;
     let OutcomesSpec { stops, children } = outcomes;
     let Some(children) = placed(alloc, run.tasks.as_slice(), children.as_slice())? else {

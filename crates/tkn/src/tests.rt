@@ -25,6 +25,13 @@ const NOT_KNOWN: &str =
 
 const RETRIES: &str = "{'name': 'a', 'taskSpec': {'steps': [{'command': ['true']}]}, 'retries': 1}";
 
+const REFERS: &str = "{'name': 'a', 'taskSpec': {'steps': [{'command': ['echo', '$(params.x)']}]}}";
+
+const MUST_REFER: &str =
+    "{'name': 'a', 'taskSpec': {'steps': [{'command': ['echo', 'x $(params.)']}]}}";
+
+const SHELL: &str = "{'name': 'a', 'taskSpec': {'steps': [{'command': ['echo', '$(date)']}]}}";
+
 const SUCCEEDED: &str = "{'task': 'a', 'index': 0, 'outcome': 'Succeeded'}";
 
 const BOTH: &str = "{'task': 'a', 'index': 0, 'outcome': 'Succeeded'},
@@ -164,6 +171,20 @@ fn runs_are_decided(rt: HostRuntime) -> Result<(), Fail> {
         ("", "", "", 3, "rejected 7 Unsupported $\n"),
     ] {
         let (given, sink) = decided(rt.alloc(), input(rt.alloc(), tasks, stops, children)?)?;
+        assert_eq!(rt; sink.bytes(), text.as_bytes());
+        assert_eq!(rt; given, status);
+    }
+    Ok(())
+}
+
+#[test]
+fn a_command_refers_to_nothing(rt: HostRuntime) -> Result<(), Fail> {
+    for (tasks, status, text) in [
+        (REFERS, 3, "rejected 7 Unsupported $\n"),
+        (MUST_REFER, 3, "rejected 7 Unsupported $\n"),
+        (SHELL, 0, "pipelinerun r True Succeeded\n  ran a\n"),
+    ] {
+        let (given, sink) = decided(rt.alloc(), input(rt.alloc(), tasks, "", SUCCEEDED)?)?;
         assert_eq!(rt; sink.bytes(), text.as_bytes());
         assert_eq!(rt; given, status);
     }

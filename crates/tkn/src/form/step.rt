@@ -4,6 +4,7 @@ ghost use Rattle.tkn.specs.Form.{is_step, step_of};
 use crate::form::fields::list_at;
 use crate::form::keys::has_keys;
 use crate::form::reading::Form;
+use crate::form::references::refer_to_nothing;
 use serde_json::Value;
 use std::alloc::{AllocError, Global};
 use tk_types::{List, Step, Text};
@@ -21,6 +22,9 @@ impl Form for Step {
             return Ok(None);
         };
         if command.len() == 0 {
+            return Ok(None);
+        }
+        if !refer_to_nothing(alloc, command.as_slice())? {
             return Ok(None);
         }
         Ok(Some(Step {
