@@ -10,12 +10,12 @@ use crate::refusal::BindError;
 use std::alloc::{AllocError, Global};
 use tk_types::{List, Pair, Param, ParamSpec, ParamType, Text, TryCopy, Value};
 
-/// Where values are sought, by their names.
+/// Where values are sought, by their names: what is given, what is given outside and the defaults outside.
 #[derive(Drop)]
-struct Sources<'a> {
-    given: FirstNamed<'a, Param>,
-    outer: FirstNamed<'a, Param>,
-    fallback: FirstNamed<'a, Param>,
+pub struct Sources<'a> {
+    pub given: FirstNamed<'a, Param>,
+    pub outer: FirstNamed<'a, Param>,
+    pub fallback: FirstNamed<'a, Param>,
 }
 
 /// The value of a name.
@@ -29,7 +29,7 @@ fn value_named<'a>(params: &FirstNamed<'a, Param>, name: &str) -> Option<&'a Val
 }
 
 /// The first of: the value given, the value given outside, its own default, the default outside.
-fn first_value<'a>(wanted: &'a ParamSpec, sources: &Sources<'a>) -> Option<&'a Value>
+pub fn first_value<'a>(wanted: &'a ParamSpec, sources: &Sources<'a>) -> Option<&'a Value>
     ensures { option_copied result ≡ first_value wanted.now sources.now.given sources.now.outer sources.now.fallback }
 {
     let name = wanted.name.as_str();
@@ -97,8 +97,12 @@ fn bound_to(alloc: Global, wanted: &ParamSpec, value: &Value) -> Result<Param, B
     Ok(Param { name, value })
 }
 
-/// The wanted parameter with its value.
-fn bound_param(alloc: Global, wanted: &ParamSpec, sources: &Sources<'_>) -> Result<Param, BindError>
+/// The wanted parameter with its value, or why it has none, as `bind_params` tells it of each.
+pub fn bound_param(
+    alloc: Global,
+    wanted: &ParamSpec,
+    sources: &Sources<'_>,
+) -> Result<Param, BindError>
     ensures bound { IfOk result (λ param. bound_param sources.now.given sources.now.outer sources.now.fallback wanted.now ≡ Ok param) }
     ensures refused { IfErr result (IsBindRefusal (bound_param sources.now.given sources.now.outer sources.now.fallback wanted.now)) }
 {

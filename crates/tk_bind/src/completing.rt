@@ -141,8 +141,8 @@ fn with_defaults(alloc: Global, pairs: &[Pair], defaults: &[Pair]) -> Result<Vec
     with_each(alloc, all, defaults)
 }
 
-/// The value, an object with the keys that only its default has.
-pub(crate) fn completed(
+/// The value, an object with the keys that only its default has. The only error is want of memory.
+pub fn completed(
     alloc: Global,
     value: &Value,
     default_value: &Option<Value>,

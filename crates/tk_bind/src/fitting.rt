@@ -97,8 +97,8 @@ fn push_params(alloc: Global, made: &mut List<Param>, params: &[Param]) -> Resul
     Ok(())
 }
 
-/// What the texts of a body's steps see, with these parameters in front.
-fn step_env(alloc: Global, body: &TaskBody, mut params: List<Param>) -> Result<Env, AllocError>
+/// What the texts of a body's steps see, with these parameters in front. The only error is want of memory.
+pub fn step_env(alloc: Global, body: &TaskBody, mut params: List<Param>) -> Result<Env, AllocError>
     ensures { IfOk result (λ env. env ≡ step_env body.now params) }
 {
     push_params(alloc, &mut params, body.outer.as_slice())?;

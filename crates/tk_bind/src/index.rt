@@ -4,7 +4,7 @@ ghost use Rattle.std.specs.HashMap.{get_by};
 use std::alloc::{AllocError, Global};
 use std::collections::HashMap;
 use std::marker::Model;
-use tk_types::{Pair, Param, ParamSpec, Text};
+use tk_types::{Pair, Param, ParamSpec, PipelineTask, ResultSpec, Space, SpaceUse, Text};
 
 /// A thing with a name.
 pub trait Named {
@@ -46,6 +46,38 @@ impl Named for Text {
 
     fn name(&self) -> &str {
         self.as_str()
+    }
+}
+
+impl Named for ResultSpec {
+    ghost name = { λ r. r.name };
+
+    fn name(&self) -> &str {
+        self.name.as_str()
+    }
+}
+
+impl Named for PipelineTask {
+    ghost name = { λ t. t.name };
+
+    fn name(&self) -> &str {
+        self.name.as_str()
+    }
+}
+
+impl Named for Space {
+    ghost name = { λ s. s.name };
+
+    fn name(&self) -> &str {
+        self.name.as_str()
+    }
+}
+
+impl Named for SpaceUse {
+    ghost name = { λ u. u.name };
+
+    fn name(&self) -> &str {
+        self.name.as_str()
     }
 }
 

@@ -15,8 +15,8 @@ fn push_part(key: &mut String, part: &Part) -> Result<(), AllocError>
     }
 }
 
-/// A part as a name.
-pub(crate) fn key_part(alloc: Global, part: &Part) -> Result<String, AllocError>
+/// A part as a name: an index or `[*]` as it is written, which names nothing. The only error is want of memory.
+pub fn key_part(alloc: Global, part: &Part) -> Result<String, AllocError>
     ensures { IfOk result (λ key. string_bytes key ≡ key_part part.now) }
 {
     let mut key = String::new(alloc);
@@ -36,8 +36,8 @@ fn key_from(alloc: Global, first: &Part, rest: &[Part]) -> Result<String, AllocE
     Ok(key)
 }
 
-/// The key of a word: its parts with a dot between each two.
-pub(crate) fn key_of(alloc: Global, parts: &[Part]) -> Result<String, AllocError>
+/// The key of a word: its parts with a dot between each two. The only error is want of memory.
+pub fn key_of(alloc: Global, parts: &[Part]) -> Result<String, AllocError>
     ensures { IfOk result (λ key. string_bytes key ≡ key_of parts.now) }
 {
     match parts {

@@ -28,15 +28,19 @@ mod target;
 #[cfg(test)]
 mod tests;
 
-pub use bind::bind_params;
+pub use bind::{Sources, bind_params, bound_param, first_value};
 pub use check::check_text;
+pub use completing::completed;
 pub use env::{Env, Given};
-pub use fitting::fits;
+pub use fitting::{fits, step_env};
 pub use found::Found;
 pub use index::{FirstNamed, Named};
-pub use lookup::{EnvIndex, Lookup};
+pub use key::{key_of, key_part};
+pub use lookup::{EnvIndex, Lookup, index_of};
 pub use params::{list_in, matrix_in, param_in, params_in};
 pub use refusal::{BindError, CheckError, SubstituteError};
 pub use scope::Scope;
-pub use scope_names::ScopeNames;
-pub use substitution::{substitute, substitute_list, substitute_value};
+pub use scope_names::{ScopeNames, suits};
+pub use status::{has_finally_head, is_status, status_task};
+pub use substitution::{pieces_of, substitute, substitute_list, substitute_value};
+pub use target::{Target, target_of};

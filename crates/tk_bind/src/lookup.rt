@@ -81,7 +81,7 @@ impl<'p, 'r, 'w> EnvIndex<'p, 'r, 'w> {
 }
 
 /// An index of an environment. The only error is want of memory.
-pub(crate) fn index_of<'e>(alloc: Global, env: &'e Env) -> Result<EnvIndex<'e, 'e, 'e>, AllocError>
+pub fn index_of<'e>(alloc: Global, env: &'e Env) -> Result<EnvIndex<'e, 'e, 'e>, AllocError>
     ensures { IfOk result (λ index. index ≡ env.now) }
 {
     let params = env.params.as_slice();

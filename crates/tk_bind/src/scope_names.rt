@@ -148,7 +148,7 @@ fn is_in(texts: &FirstNamed<'_, Text>, text: &str) -> bool
 }
 
 /// Whether a value of the type may have such a selector.
-fn suits(kind: ParamType, selector: &[Part]) -> bool
+pub fn suits(kind: ParamType, selector: &[Part]) -> bool
     ensures { result ≡ suits kind selector.now }
 {
     match selector {

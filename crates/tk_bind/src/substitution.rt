@@ -16,8 +16,8 @@ use std::alloc::{AllocError, Global};
 use tk_types::{List, Pair, Text, TryCopy, Value};
 use tk_vars::{Piece, Pieces, Reference, ScanError, scan};
 
-/// The pieces of a text that has a reading.
-pub(crate) fn pieces_of(alloc: Global, text: &str) -> Result<Pieces, AllocError>
+/// The pieces of a text that has a reading. The only error is want of memory.
+pub fn pieces_of(alloc: Global, text: &str) -> Result<Pieces, AllocError>
     requires { HasReading text.now }
     ensures { IfOk result (λ pieces. pieces ≡ pieces_of text.now) }
 {

@@ -6,7 +6,7 @@ use tk_vars::{Part, Word};
 
 /// What a reference refers to, by its parts.
 #[derive(Clone, Copy)]
-pub(crate) enum Target<'a> {
+pub enum Target<'a> {
     /// A parameter, and the selector.
     Param {
         name: &'a Part,
@@ -65,7 +65,7 @@ fn headed<'a>(head: &str, parts: &'a [Part]) -> Option<Target<'a>>
 }
 
 /// What a reference with these parts refers to.
-pub(crate) fn target_of(parts: &[Part]) -> Target<'_>
+pub fn target_of(parts: &[Part]) -> Target<'_>
     ensures { meant result ≡ target_of parts.now }
 {
     match parts {

@@ -19,10 +19,10 @@ use Rattle.tk_graph.specs.Parents.{parent_names}
 use Rattle.tk_graph.specs.Results.{guards_texts, matrix_texts, params_texts, task_texts, when_texts}
 use Rattle.tk_graph.specs.Unknown.{is_known}
 use Rattle.tk_bind.specs.Fits.{step_elements, step_single_texts, step_texts}
-use Rattle.tk_bind.specs.Readings.{ReadsMatrix, ReadsParams, ReadsStep}
+use Rattle.tk_bind.specs.Readings.{ReadsGuard, ReadsMatrix, ReadsParams, ReadsStep}
 use Rattle.tk_verdict.specs.Facts.{all_tasks}
 use Rattle.tk_verdict.specs.Gathered.{IsReadable}
-use Rattle.tk_verdict.specs.Readings.{ReadsBody, ReadsGuard, ReadsTask}
+use Rattle.tk_verdict.specs.Readings.{ReadsBody, ReadsTask}
 use Rattle.tk_verdict.specs.WellFormed.{HasParents, IsWellFormed}
 
 module _ {X : Type 0} (P : X → Type 0) where

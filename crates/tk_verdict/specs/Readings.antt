@@ -3,14 +3,9 @@ use Rattle.std.specs.Prelude.{All}
 use Rattle.std.specs.Option.{ForSome}
 use Rattle.tk_types.specs.declared.task.PipelineTask.{PipelineTask}
 use Rattle.tk_types.specs.declared.task.TaskBody.{TaskBody}
-use Rattle.tk_types.specs.declared.task.When.{When}
 use Rattle.tk_vars.specs.Reading.{HasReading}
 use Rattle.tk_graph.specs.Results.{task_texts}
-use Rattle.tk_bind.specs.Readings.{ReadsMatrix, ReadsParams, ReadsStep}
-
-pub record ReadsGuard (guard : When) : Type 0 where
-  pub input : HasReading guard.input
-  pub values : All HasReading guard.values
+use Rattle.tk_bind.specs.Readings.{ReadsGuard, ReadsMatrix, ReadsParams, ReadsStep}
 
 pub record ReadsTask (task : PipelineTask) : Type 0 where
   pub params : ReadsParams task.params

@@ -4,7 +4,7 @@ ghost use Rattle.tk_types.specs.Lists.{all_some};
 ghost use Rattle.tk_vars.specs.Reading.{HasReading};
 ghost use Rattle.tk_bind.specs.Substitute.{substituted, substituted_list};
 ghost use Rattle.tk_verdict.specs.Bindings.{guard_in, guards_in};
-ghost use Rattle.tk_verdict.specs.Readings.{ReadsGuard};
+ghost use Rattle.tk_bind.specs.Readings.{ReadsGuard};
 
 use std::alloc::{AllocError, Global};
 use tk_bind::{Lookup, SubstituteError};
