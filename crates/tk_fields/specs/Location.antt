@@ -1,10 +1,12 @@
 -- Where a value stands.
+use Rattle.std.specs.Prelude.{[]}
 use Rattle.tk_types.specs.Place.{Place, ◌▸◌, ◌#◌}
-use Rattle.tk_fields.specs.declared.location.Location.{Location}
-use Rattle.tk_fields.specs.declared.location.Location.TheVariants.{Here, Member, Element}
+use Rattle.tk_fields.specs.declared.location.Way.{Way}
+use Rattle.tk_fields.specs.declared.location.Way.TheVariants.{Root, Known, Member, Element}
 
--- the place that a location tells
-abbrev pub place_of : Location → Place
-place_of (Here place) = place.now
-place_of (Member place key) = place.now ▸ key.now
-place_of (Element place index) = place.now # index
+-- the place to which a last step leads
+abbrev pub place_of : Way → Place
+place_of Root = []
+place_of (Known place) = place.now
+place_of (Member above key) = above.now ▸ key.now
+place_of (Element above index) = above.now # index

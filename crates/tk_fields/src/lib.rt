@@ -6,16 +6,15 @@
 //! of an object's fields is a few lines in a crate above:
 //!
 //! ```text
-//! let place = place_at(alloc, location)?;
-//! check_object(alloc, value, &field_table!(Used "input" "values", Refused "cel"), &place)?;
+//! check_object(alloc, value, &field_table!(Used "input" "values", Refused "cel"), place)?;
 //! let guard = Guard {
-//!     input: required::<AnyText>(alloc, value, &place, "input")?,
-//!     values: or_empty::<Each<AnyText>>(alloc, value, &place, "values")?,
+//!     input: required::<AnyText>(alloc, value, place, "input")?,
+//!     values: or_empty::<Each<AnyText>>(alloc, value, place, "values")?,
 //! };
 //! ```
 //!
-//! and behind the last field the rules between fields, as `just_one`. A place is made where an object or an array is
-//! entered, and else only where a fault is told. An object of more than about five fields is read in parts, its keys
+//! and behind the last field the rules between fields, as `just_one`. Where a value stands is a `Location`, whose steps
+//! refer to each other; a place is made only where a fault is told. An object of more than about five fields is read in parts, its keys
 //! and some fields at a time, each by a function of its own whose check is an `unfoldable` definition; the check of
 //! the whole is `in_order` of them.
 #![tactic(auto)]

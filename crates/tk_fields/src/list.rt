@@ -5,12 +5,12 @@ ghost use Rattle.tk_types.specs.First.{first_in};
 ghost use Rattle.tk_fields.specs.Check.{each, some_of};
 ghost use Rattle.tk_fields.specs.Get.{elements, is_array, list_of};
 
-use crate::location::{Location, place_at, refusal};
+use crate::location::{Location, refusal};
 use crate::reader::{OrEmpty, Reader};
 use serde_json::Value;
 use std::alloc::Global;
 use std::marker::PhantomData;
-use tk_types::{List, Place, Rejected};
+use tk_types::{List, Rejected};
 
 /// The elements of an array, and None for any other value.
 pub fn elements_of(value: &Value) -> Option<&[Value]>
@@ -26,14 +26,14 @@ pub fn elements_of(value: &Value) -> Option<&[Value]>
 fn read_elements<R: Reader>(
     alloc: Global,
     items: &[Value],
-    place: &Place,
+    place: &Location<'_>,
 ) -> Result<List<R::Out>, Rejected>
     ensures { Reads (first_in R.check place.now (map view items.now)) (map R.value_of (map view items.now)) result }
 {
     let mut values = List::new(alloc);
     for item in items {
         let index = values.len() as u64;
-        values.push(R::read(alloc, item, Location::Element(place, index))?)?;
+        values.push(R::read(alloc, item, &(&*place).at(index))?)?;
     }
     Ok(values)
 }
@@ -48,10 +48,10 @@ impl<R: Reader> Reader for Each<R> {
 
     ghost value_of = { list_of R.value_of };
 
-    fn read(alloc: Global, value: &Value, location: Location) -> Result<List<R::Out>, Rejected> {
+    fn read(alloc: Global, value: &Value, place: &Location<'_>) -> Result<List<R::Out>, Rejected> {
         match elements_of(value) {
-            Some(items) => read_elements::<R>(alloc, items, &place_at(alloc, location)?),
-            None => Err(refusal(alloc, 2, location)),
+            Some(items) => read_elements::<R>(alloc, items, place),
+            None => Err(refusal(alloc, 2, place)),
         }
     }
 }
@@ -72,11 +72,11 @@ impl<R: Reader> Reader for SomeOf<R> {
 
     ghost value_of = { list_of R.value_of };
 
-    fn read(alloc: Global, value: &Value, location: Location) -> Result<List<R::Out>, Rejected> {
+    fn read(alloc: Global, value: &Value, place: &Location<'_>) -> Result<List<R::Out>, Rejected> {
         match elements_of(value) {
-            Some([]) => Err(refusal(alloc, 5, location)),
-            Some(items) => read_elements::<R>(alloc, items, &place_at(alloc, location)?),
-            None => Err(refusal(alloc, 2, location)),
+            Some([]) => Err(refusal(alloc, 5, place)),
+            Some(items) => read_elements::<R>(alloc, items, place),
+            None => Err(refusal(alloc, 2, place)),
         }
     }
 }

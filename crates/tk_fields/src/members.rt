@@ -5,13 +5,13 @@ ghost use Rattle.tk_types.specs.Rejected.{Reads};
 ghost use Rattle.tk_fields.specs.Check.{each_member, first_member};
 ghost use Rattle.tk_fields.specs.Get.{members, members_of, pair};
 
-use crate::location::{Location, place_at, refusal};
+use crate::location::{Location, refusal};
 use crate::reader::{OrEmpty, Reader};
 use crate::text::AnyText;
 use serde_json::{Map, Value};
 use std::alloc::Global;
 use std::marker::PhantomData;
-use tk_types::{List, Pair, Place, Rejected, Text};
+use tk_types::{List, Pair, Rejected, Text};
 
 /// What a member of an object says, by its key and its value.
 pub trait Entry {
@@ -33,14 +33,14 @@ pub trait Entry {
 fn read_members<E: Entry>(
     alloc: Global,
     object: &Map<String, Value>,
-    place: &Place,
+    place: &Location<'_>,
 ) -> Result<List<E::Out>, Rejected>
     ensures { Reads (first_member E.Form.check place.now (members (json_object (members_view object.now.entries))))
         (members_of E.made E.Form.value_of (json_object (members_view object.now.entries))) result }
 {
     let mut values = List::new(alloc);
     for (key, value) in object.iter() {
-        let read = E::Form::read(alloc, value, Location::Member(place, key.as_str()))?;
+        let read = E::Form::read(alloc, value, &place.key(key.as_str()))?;
         values.push(E::make(Text::from_str(alloc, key.as_str())?, read))?;
     }
     Ok(values)
@@ -56,10 +56,10 @@ impl<E: Entry> Reader for EachMember<E> {
 
     ghost value_of = { members_of E.made E.Form.value_of };
 
-    fn read(alloc: Global, value: &Value, location: Location) -> Result<List<E::Out>, Rejected> {
+    fn read(alloc: Global, value: &Value, place: &Location<'_>) -> Result<List<E::Out>, Rejected> {
         match value {
-            Value::Object(object) => read_members::<E>(alloc, object, &place_at(alloc, location)?),
-            _ => Err(refusal(alloc, 2, location)),
+            Value::Object(object) => read_members::<E>(alloc, object, place),
+            _ => Err(refusal(alloc, 2, place)),
         }
     }
 }

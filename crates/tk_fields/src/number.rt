@@ -21,10 +21,10 @@ impl Reader for Truth {
 
     ghost value_of = { truth_of };
 
-    fn read(alloc: Global, value: &Value, location: Location) -> Result<bool, Rejected> {
+    fn read(alloc: Global, value: &Value, place: &Location<'_>) -> Result<bool, Rejected> {
         match value.as_bool() {
             Some(holds) => Ok(holds),
-            None => Err(refusal(alloc, 2, location)),
+            None => Err(refusal(alloc, 2, place)),
         }
     }
 }
@@ -45,10 +45,10 @@ impl Reader for Below8 {
 
     ghost value_of = { number_of };
 
-    fn read(alloc: Global, value: &Value, location: Location) -> Result<u8, Rejected> {
+    fn read(alloc: Global, value: &Value, place: &Location<'_>) -> Result<u8, Rejected> {
         match value.as_u64() {
             Some(number) if number < 256 => Ok(number as u8),
-            _ => Err(refusal(alloc, 2, location)),
+            _ => Err(refusal(alloc, 2, place)),
         }
     }
 }
@@ -63,10 +63,10 @@ impl Reader for Below32 {
 
     ghost value_of = { number_of };
 
-    fn read(alloc: Global, value: &Value, location: Location) -> Result<u32, Rejected> {
+    fn read(alloc: Global, value: &Value, place: &Location<'_>) -> Result<u32, Rejected> {
         match value.as_u64() {
             Some(number) if number < 4294967296 => Ok(number as u32),
-            _ => Err(refusal(alloc, 2, location)),
+            _ => Err(refusal(alloc, 2, place)),
         }
     }
 }
@@ -104,12 +104,12 @@ impl<T: NumberRule> Reader for NumberThat<T> {
 
     ghost value_of = { number_of };
 
-    fn read(alloc: Global, value: &Value, location: Location) -> Result<u64, Rejected> {
+    fn read(alloc: Global, value: &Value, place: &Location<'_>) -> Result<u64, Rejected> {
         let Some(number) = value.as_u64() else {
-            return Err(refusal(alloc, 2, location));
+            return Err(refusal(alloc, 2, place));
         };
         if !T::is_obeyed(number) {
-            return Err(refusal(alloc, T::number(), location));
+            return Err(refusal(alloc, T::number(), place));
         }
         Ok(number)
     }

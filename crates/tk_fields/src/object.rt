@@ -11,20 +11,20 @@ use crate::location::{Location, refusal};
 use crate::table::{FieldTable, Key, check_fields};
 use serde_json::{Map, Value};
 use std::alloc::Global;
-use tk_types::{Place, Rejected};
+use tk_types::Rejected;
 
 /// The members of an object; any other value is `WrongShape`.
 pub fn object_at<'a>(
     alloc: Global,
     value: &'a Value,
-    place: &Place,
+    place: &Location<'_>,
 ) -> Result<&'a Map<String, Value>, Rejected>
     ensures ok { IfOk result (λ object. view value.now ≡ json_object (members_view object.now.entries)) }
     ensures err { IfErr result (λ e. (is_object (view value.now) ≡ false) × IsRefusal (Some (wrong_shape place.now)) e) }
 {
     match value {
         Value::Object(object) => Ok(object),
-        _ => Err(refusal(alloc, 2, Location::Here(place))),
+        _ => Err(refusal(alloc, 2, place)),
     }
 }
 
@@ -35,7 +35,7 @@ pub fn check_object<K: Key, const N: usize>(
     alloc: Global,
     value: &Value,
     table: &FieldTable<N, K>,
-    place: &Place,
+    place: &Location<'_>,
 ) -> Result<(), Rejected>
     ensures { Reads (object_by (rows_of (map K.key table.now.names) table.now.roles) place.now (view value.now)) tt result }
 {
@@ -48,7 +48,7 @@ pub fn check_object<K: Key, const N: usize>(
 pub fn just_one(
     alloc: Global,
     object: &Value,
-    place: &Place,
+    place: &Location<'_>,
     first: &str,
     second: &str,
 ) -> Result<(), Rejected>
@@ -59,5 +59,5 @@ pub fn just_one(
         (Some(_), Some(_)) => 11,
         _ => return Ok(()),
     };
-    Err(refusal(alloc, number, Location::Member(place, second)))
+    Err(refusal(alloc, number, &place.key(second)))
 }

@@ -4,13 +4,12 @@ ghost use Rattle.serde_json.specs.View.{view};
 ghost use Rattle.tk_types.specs.Rejected.{Reads};
 ghost use Rattle.tk_fields.specs.Check.{Check};
 ghost use Rattle.tk_fields.specs.Get.{at, field};
-ghost use Rattle.tk_fields.specs.Location.{place_of};
 ghost use Rattle.tk_fields.specs.Shape.{field_finding, optional as optional_field, required as required_field};
 
 use crate::location::{Location, refusal};
 use serde_json::Value;
 use std::alloc::Global;
-use tk_types::{Place, Rejected};
+use tk_types::Rejected;
 
 /// A form of JSON value: which values have it, and what they say. Its reader gives exactly that.
 pub trait Reader {
@@ -24,8 +23,8 @@ pub trait Reader {
     ghost value_of: { Data → Self.Out };
 
     /// What the value says, or what is wrong with it first. The only other error is want of memory.
-    fn read(alloc: Global, value: &Value, location: Location) -> Result<Self::Out, Rejected>
-        ensures { Reads (check (place_of location.entry) (view value.now)) (value_of (view value.now)) result };
+    fn read(alloc: Global, value: &Value, place: &Location<'_>) -> Result<Self::Out, Rejected>
+        ensures { Reads (check place.now (view value.now)) (value_of (view value.now)) result };
 }
 
 /// A form of which an absent field says something: no elements, the empty text, `false`, 0.
@@ -40,14 +39,14 @@ pub trait OrEmpty: Reader {
 pub fn required<R: Reader>(
     alloc: Global,
     object: &Value,
-    place: &Place,
+    place: &Location<'_>,
     key: &str,
 ) -> Result<R::Out, Rejected>
     ensures { Reads (field_finding place.now (view object.now) (required_field key.now R.check)) (R.value_of (at key.now (view object.now))) result }
 {
     match object.get(key) {
-        Some(value) => R::read(alloc, value, Location::Member(place, key)),
-        None => Err(refusal(alloc, 5, Location::Member(place, key))),
+        Some(value) => R::read(alloc, value, &place.key(key)),
+        None => Err(refusal(alloc, 5, &place.key(key))),
     }
 }
 
@@ -56,13 +55,13 @@ pub fn required<R: Reader>(
 pub fn optional<R: Reader>(
     alloc: Global,
     object: &Value,
-    place: &Place,
+    place: &Location<'_>,
     key: &str,
 ) -> Result<Option<R::Out>, Rejected>
     ensures { Reads (field_finding place.now (view object.now) (optional_field key.now R.check)) (field R.value_of key.now (view object.now)) result }
 {
     match object.get(key) {
-        Some(value) => Ok(Some(R::read(alloc, value, Location::Member(place, key))?)),
+        Some(value) => Ok(Some(R::read(alloc, value, &place.key(key))?)),
         None => Ok(None),
     }
 }
@@ -72,13 +71,13 @@ pub fn optional<R: Reader>(
 pub fn or_empty<R: OrEmpty>(
     alloc: Global,
     object: &Value,
-    place: &Place,
+    place: &Location<'_>,
     key: &str,
 ) -> Result<R::Out, Rejected>
     ensures { Reads (field_finding place.now (view object.now) (optional_field key.now R.Reader.check)) (R.Reader.value_of (at key.now (view object.now))) result }
 {
     match object.get(key) {
-        Some(value) => R::read(alloc, value, Location::Member(place, key)),
+        Some(value) => R::read(alloc, value, &place.key(key)),
         None => Ok(R::empty(alloc)),
     }
 }

@@ -8,7 +8,7 @@ ghost use Rattle.tk_fields.specs.Keys.{role_among, key_finding, first_bad_key, r
 use crate::location::{Location, refusal};
 use serde_json::{Map, Value};
 use std::alloc::Global;
-use tk_types::{Place, Rejected};
+use tk_types::Rejected;
 
 /// What becomes of a key that a table names.
 #[derive(Clone, Copy, Debug, PartialEq, Eq)]
@@ -72,7 +72,12 @@ fn find_role<K: Key>(mut names: &[K], mut roles: &[Role], key: &str) -> Option<R
 }
 
 /// Whether a key in this role may stand.
-fn check_key(alloc: Global, role: Option<Role>, key: &str, place: &Place) -> Result<(), Rejected>
+fn check_key(
+    alloc: Global,
+    role: Option<Role>,
+    key: &str,
+    place: &Location<'_>,
+) -> Result<(), Rejected>
     ensures { Reads (key_finding place.now key.now role) tt result }
 {
     let number = match role {
@@ -80,7 +85,7 @@ fn check_key(alloc: Global, role: Option<Role>, key: &str, place: &Place) -> Res
         Some(Role::Refused) => 7,
         None => 6,
     };
-    Err(refusal(alloc, number, Location::Member(place, key)))
+    Err(refusal(alloc, number, &place.key(key)))
 }
 
 /// Refuses the first key, in key order, that the table doesn't name (`UnknownField`) or refuses (`Unsupported`).
@@ -88,7 +93,7 @@ pub fn check_fields<K: Key, const N: usize>(
     alloc: Global,
     object: &Map<String, Value>,
     table: &FieldTable<N, K>,
-    place: &Place,
+    place: &Location<'_>,
 ) -> Result<(), Rejected>
     ensures { Reads (first_bad_key (rows_of (map K.key table.now.names) table.now.roles) place.now (keys_of (json_object (members_view object.now.entries)))) tt result }
 {
@@ -107,7 +112,7 @@ fn check_keys<K: Key>(
     object: &Map<String, Value>,
     names: &[K],
     roles: &[Role],
-    place: &Place,
+    place: &Location<'_>,
 ) -> Result<(), Rejected>
     ensures { Reads (first_bad_key (rows_of (map K.key names.now) roles.now) place.now (keys_of (json_object (members_view object.now.entries)))) tt result }
 {

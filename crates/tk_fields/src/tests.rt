@@ -8,7 +8,7 @@ ghost use Rattle.tk_fields.specs.Shape.{just_one as exactly_one, object_of, opti
 
 use crate::field_table;
 use crate::list::{Each, SomeOf};
-use crate::location::{Location, place_at};
+use crate::location::Location;
 use crate::members::{EachMember, TextEntry};
 use crate::number::{Below8, Below32, NumberRule, NumberThat, Truth};
 use crate::object::{check_object, just_one};
@@ -18,7 +18,7 @@ use crate::text::{AnyText, OneOf, TextRule, TextThat, Words};
 use serde_json::Value;
 use std::alloc::{AllocError, Global};
 use std::test::Fail;
-use tk_types::{List, Place, Rejected, Text};
+use tk_types::{List, Rejected, Text};
 
 /// The line of a refusal, and `read` where there is none.
 fn told<T: Drop>(alloc: Global, outcome: Result<T, Rejected>) -> Result<Text, AllocError> {
@@ -50,7 +50,7 @@ fn the_first_bad_key_is_told(rt: HostRuntime) -> Result<(), Fail> {
     ];
     for (text, line) in rows {
         let value = json(alloc, text)?;
-        let outcome = check_object(alloc, &value, &table, &Place::root(alloc));
+        let outcome = check_object(alloc, &value, &table, &Location::root());
         assert_eq!(rt; told(alloc, outcome)?.as_str(), line);
     }
     Ok(())
@@ -65,7 +65,7 @@ fn json(alloc: Global, text: &str) -> Result<Value, serde_json::Error> {
 fn tables_have_any_number_of_rows(rt: HostRuntime) -> Result<(), Fail> {
     let alloc = rt.alloc();
     let value = json(alloc, "{'l': 1}")?;
-    let place = Place::root(alloc);
+    let place = Location::root();
     let none: FieldTable<0> = field_table!();
     let one = field_table!(Used "l");
     let twelve =
@@ -134,7 +134,7 @@ impl Words for Operator {
 
 /// What a reader of one form tells of the field `f`.
 fn reading(alloc: Global, form: &str, value: &Value) -> Result<Text, AllocError> {
-    let place = Place::root(alloc);
+    let place = Location::root();
     match form {
         "text" => told(alloc, required::<AnyText>(alloc, value, &place, "f")),
         "rule" => told(
@@ -238,15 +238,14 @@ impl Reader for PointShape {
 
     ghost value_of = { λ d. record { name = text_at (codes "name") d; near = texts_at (codes "near") d } };
 
-    fn read(alloc: Global, value: &Value, location: Location) -> Result<Point, Rejected> {
-        let place = place_at(alloc, location)?;
+    fn read(alloc: Global, value: &Value, place: &Location<'_>) -> Result<Point, Rejected> {
         let table = field_table!(Used "name" "near", Ignored "note");
-        check_object(alloc, value, &table, &place)?;
+        check_object(alloc, value, &table, place)?;
         let point = Point {
-            name: required::<AnyText>(alloc, value, &place, "name")?,
-            near: or_empty::<Each<AnyText>>(alloc, value, &place, "near")?,
+            name: required::<AnyText>(alloc, value, place, "name")?,
+            near: or_empty::<Each<AnyText>>(alloc, value, place, "near")?,
         };
-        just_one(alloc, value, &place, "near", "note")?;
+        just_one(alloc, value, place, "near", "note")?;
         Ok(point)
     }
 }
@@ -287,8 +286,8 @@ fn shapes_are_read_in_order(rt: HostRuntime) -> Result<(), Fail> {
     ];
     for (text, line) in rows {
         let value = json(alloc, text)?;
-        let place = Place::root(alloc);
-        let outcome = Each::<PointShape>::read(alloc, &value, Location::Here(&place));
+        let place = Location::root();
+        let outcome = Each::<PointShape>::read(alloc, &value, &place);
         assert_eq!(rt; told(alloc, outcome)?.as_str(), line);
     }
     Ok(())
@@ -298,8 +297,8 @@ fn shapes_are_read_in_order(rt: HostRuntime) -> Result<(), Fail> {
 fn values_are_what_stands(rt: HostRuntime) -> Result<(), Fail> {
     let alloc = rt.alloc();
     let value = json(alloc, "{'name': 'a', 'near': ['b', 'c']}")?;
-    let place = Place::root(alloc);
-    let Ok(point) = PointShape::read(alloc, &value, Location::Here(&place)) else {
+    let place = Location::root();
+    let Ok(point) = PointShape::read(alloc, &value, &place) else {
         return Err(Fail::new("refused"));
     };
     assert_eq!(rt; point.name.as_str(), "a");

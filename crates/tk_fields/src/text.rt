@@ -22,10 +22,10 @@ impl Reader for AnyText {
 
     ghost value_of = { text_of };
 
-    fn read(alloc: Global, value: &Value, location: Location) -> Result<Text, Rejected> {
+    fn read(alloc: Global, value: &Value, place: &Location<'_>) -> Result<Text, Rejected> {
         match value.as_str() {
             Some(text) => Ok(Text::from_str(alloc, text)?),
-            None => Err(refusal(alloc, 2, location)),
+            None => Err(refusal(alloc, 2, place)),
         }
     }
 }
@@ -63,12 +63,12 @@ impl<T: TextRule> Reader for TextThat<T> {
 
     ghost value_of = { text_of };
 
-    fn read(alloc: Global, value: &Value, location: Location) -> Result<Text, Rejected> {
+    fn read(alloc: Global, value: &Value, place: &Location<'_>) -> Result<Text, Rejected> {
         let Some(text) = value.as_str() else {
-            return Err(refusal(alloc, 2, location));
+            return Err(refusal(alloc, 2, place));
         };
         if !T::is_obeyed(text) {
-            return Err(refusal(alloc, T::number(), location));
+            return Err(refusal(alloc, T::number(), place));
         }
         Ok(Text::from_str(alloc, text)?)
     }
@@ -100,13 +100,13 @@ impl<W: Words> Reader for OneOf<W> {
 
     ghost value_of = { λ d. W.meaning (text_of d) };
 
-    fn read(alloc: Global, value: &Value, location: Location) -> Result<W::Meaning, Rejected> {
+    fn read(alloc: Global, value: &Value, place: &Location<'_>) -> Result<W::Meaning, Rejected> {
         let Some(word) = value.as_str() else {
-            return Err(refusal(alloc, 2, location));
+            return Err(refusal(alloc, 2, place));
         };
         match W::meaning_of(word) {
             Some(meaning) => Ok(meaning),
-            None => Err(refusal(alloc, 11, location)),
+            None => Err(refusal(alloc, 11, place)),
         }
     }
 }

@@ -24,21 +24,21 @@ fn read_items(
     alloc: Global,
     kinds: KindSet,
     items: &[Json],
-    place: &Place,
+    place: &Location<'_>,
 ) -> Result<List<Item>, Rejected>
     ensures { Reads (first_in (item kinds) place.now (map view items.now)) (items_from kinds place.now 0 (map view items.now)) result }
 {
     let mut objects = List::new(alloc);
     for item in items {
         let index = objects.len() as u64;
-        objects.push(read_item(alloc, kinds, index, item, place.at(alloc, index)?)?)?;
+        objects.push(read_item(alloc, kinds, index, item, &(&*place).at(index))?)?;
     }
     Ok(objects)
 }
 
 /// Refuses what is no object with the keys of a list.
 #[tactic(auto, unfolding(crate::specs::Input::list_keys))]
-fn check_list(alloc: Global, value: &Json, place: &Place) -> Result<(), Rejected>
+fn check_list(alloc: Global, value: &Json, place: &Location<'_>) -> Result<(), Rejected>
     ensures { Reads (list_keys place.now (view value.now)) tt result }
 {
     let table = field_table!(Used "apiVersion" "kind" "items", Ignored "metadata");
@@ -51,16 +51,16 @@ fn read_list_items(
     alloc: Global,
     kinds: KindSet,
     value: &Json,
-    place: &Place,
+    place: &Location<'_>,
 ) -> Result<List<Item>, Rejected>
     ensures { Reads (list_items kinds place.now (view value.now)) (list_items_of kinds place.now (view value.now)) result }
 {
     let Some(items) = value.get("items") else {
-        return Err(refusal(alloc, 5, Location::Member(place, "items")));
+        return Err(refusal(alloc, 5, &place.key("items")));
     };
     match elements_of(items) {
-        Some(items) => read_items(alloc, kinds, items, &place.key(alloc, "items")?),
-        None => Err(refusal(alloc, 2, Location::Member(place, "items"))),
+        Some(items) => read_items(alloc, kinds, items, &place.key("items")),
+        None => Err(refusal(alloc, 2, &place.key("items"))),
     }
 }
 
@@ -71,7 +71,7 @@ fn read_list(
     kinds: KindSet,
     heading: &Heading,
     value: &Json,
-    place: &Place,
+    place: &Location<'_>,
 ) -> Result<List<Item>, Rejected>
     ensures { Reads (list kinds heading.now place.now (view value.now)) (list_items_of kinds place.now (view value.now)) result }
 {
@@ -86,9 +86,9 @@ fn read_single(
     kinds: KindSet,
     heading: &Heading,
     value: &Json,
-    place: Place,
+    place: &Location<'_>,
 ) -> Result<List<Item>, Rejected>
-    ensures { Reads (headed kinds heading.now place (view value.now)) (headed_at kinds heading.now place 0 (view value.now) ∷ []) result }
+    ensures { Reads (headed kinds heading.now place.now (view value.now)) (headed_at kinds heading.now place.now 0 (view value.now) ∷ []) result }
 {
     let item = read_headed(alloc, kinds, heading, 0, value, place)?;
     let mut objects = List::new(alloc);
@@ -103,12 +103,12 @@ fn read_body(
     kinds: KindSet,
     heading: &Heading,
     value: &Json,
-    place: Place,
+    place: &Location<'_>,
 ) -> Result<List<Item>, Rejected>
-    ensures { Reads (body kinds heading.now place (view value.now)) (body_of kinds heading.now place (view value.now)) result }
+    ensures { Reads (body kinds heading.now place.now (view value.now)) (body_of kinds heading.now place.now (view value.now)) result }
 {
     if heading.kind.as_str() == "List" {
-        read_list(alloc, kinds, heading, value, &place)
+        read_list(alloc, kinds, heading, value, place)
     } else {
         read_single(alloc, kinds, heading, value, place)
     }
@@ -119,9 +119,9 @@ fn read_body(
 fn read_whole(alloc: Global, kinds: KindSet, value: &Json) -> Result<List<Item>, Rejected>
     ensures { Reads (whole kinds root (view value.now)) (whole_of kinds (view value.now)) result }
 {
-    let place = Place::root(alloc);
+    let place = Location::root();
     let heading = read_heading(alloc, value, &place)?;
-    Ok(read_body(alloc, kinds, &heading, value, place)?)
+    Ok(read_body(alloc, kinds, &heading, value, &place)?)
 }
 
 /// The JSON value that bytes are, if they are a text of JSON.

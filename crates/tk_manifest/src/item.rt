@@ -12,12 +12,9 @@ use crate::names::{NamePrefix, ObjectName};
 use crate::parameter::has_field;
 use serde_json::Value as Json;
 use std::alloc::{AllocError, Global};
-use tk_fields::{
-    AnyText, Location, Reader, TextThat, check_object, field_table, object_at, optional, place_at,
-    refusal, required,
-};
+use tk_fields::{AnyText, Location, Reader, TextThat, check_object, field_table, object_at, optional, place_at, refusal, required};
 use tk_names::generated;
-use tk_types::{Item, ItemObject, Place, Rejected, Text};
+use tk_types::{Item, ItemObject, Rejected, Text};
 
 /// How many names a prefix can be given.
 const GENERATED_NAMES: u64 = 60_466_176;
@@ -31,18 +28,18 @@ pub struct Heading {
 
 /// Refuses an object without a field.
 #[tactic(auto, unfolding(tk_fields::specs::Shape::field_finding))]
-fn check_field(alloc: Global, value: &Json, place: &Place, key: &str) -> Result<(), Rejected>
+fn check_field(alloc: Global, value: &Json, place: &Location<'_>, key: &str) -> Result<(), Rejected>
     ensures { Reads (field_finding place.now (view value.now) (required_field key.now anything)) tt result }
 {
     if has_field(value, key) {
         return Ok(());
     }
-    Err(refusal(alloc, 5, Location::Member(place, key)))
+    Err(refusal(alloc, 5, &place.key(key)))
 }
 
 /// Refuses an object without a version.
 #[tactic(auto, unfolding(crate::specs::Item::version_stands))]
-fn check_version_stands(alloc: Global, value: &Json, place: &Place) -> Result<(), Rejected>
+fn check_version_stands(alloc: Global, value: &Json, place: &Location<'_>) -> Result<(), Rejected>
     ensures { Reads (version_stands place.now (view value.now)) tt result }
 {
     check_field(alloc, value, place, "apiVersion")
@@ -50,7 +47,7 @@ fn check_version_stands(alloc: Global, value: &Json, place: &Place) -> Result<()
 
 /// Refuses an object without a kind.
 #[tactic(auto, unfolding(crate::specs::Item::kind_stands))]
-fn check_kind_stands(alloc: Global, value: &Json, place: &Place) -> Result<(), Rejected>
+fn check_kind_stands(alloc: Global, value: &Json, place: &Location<'_>) -> Result<(), Rejected>
     ensures { Reads (kind_stands place.now (view value.now)) tt result }
 {
     check_field(alloc, value, place, "kind")
@@ -58,7 +55,7 @@ fn check_kind_stands(alloc: Global, value: &Json, place: &Place) -> Result<(), R
 
 /// The version of an object, which is a text.
 #[tactic(auto, unfolding(crate::specs::Item::version_text))]
-fn read_version(alloc: Global, value: &Json, place: &Place) -> Result<Text, Rejected>
+fn read_version(alloc: Global, value: &Json, place: &Location<'_>) -> Result<Text, Rejected>
     ensures { Reads (version_text place.now (view value.now)) (text_at (codes "apiVersion") (view value.now)) result }
 {
     required::<AnyText>(alloc, value, place, "apiVersion")
@@ -66,14 +63,14 @@ fn read_version(alloc: Global, value: &Json, place: &Place) -> Result<Text, Reje
 
 /// The kind of an object, which is a text.
 #[tactic(auto, unfolding(crate::specs::Item::kind_text))]
-fn read_kind_text(alloc: Global, value: &Json, place: &Place) -> Result<Text, Rejected>
+fn read_kind_text(alloc: Global, value: &Json, place: &Location<'_>) -> Result<Text, Rejected>
     ensures { Reads (kind_text place.now (view value.now)) (text_at (codes "kind") (view value.now)) result }
 {
     required::<AnyText>(alloc, value, place, "kind")
 }
 
 /// Refuses what is no object.
-fn check_shape(alloc: Global, value: &Json, place: &Place) -> Result<(), Rejected>
+fn check_shape(alloc: Global, value: &Json, place: &Location<'_>) -> Result<(), Rejected>
     ensures { Reads (no_object place.now (view value.now)) tt result }
 {
     let _members = object_at(alloc, value, place)?;
@@ -82,7 +79,7 @@ fn check_shape(alloc: Global, value: &Json, place: &Place) -> Result<(), Rejecte
 
 /// The version and the kind of an object, which are read before all else.
 #[tactic(auto, unfolding(crate::specs::Item::heading, crate::specs::Item::heading_of))]
-pub fn read_heading(alloc: Global, value: &Json, place: &Place) -> Result<Heading, Rejected>
+pub fn read_heading(alloc: Global, value: &Json, place: &Location<'_>) -> Result<Heading, Rejected>
     ensures { Reads (heading place.now (view value.now)) (heading_of (view value.now)) result }
 {
     check_shape(alloc, value, place)?;
@@ -96,13 +93,13 @@ pub fn read_heading(alloc: Global, value: &Json, place: &Place) -> Result<Headin
 
 /// Refuses another version than the one that is due.
 #[tactic(auto, unfolding(crate::specs::Item::has_version))]
-pub fn check_version(alloc: Global, due: &str, version: &str, place: &Place) -> Result<(), Rejected>
+pub fn check_version(alloc: Global, due: &str, version: &str, place: &Location<'_>) -> Result<(), Rejected>
     ensures { Reads (has_version due.now version.now place.now) tt result }
 {
     if version == due {
         return Ok(());
     }
-    Err(refusal(alloc, 3, Location::Member(place, "apiVersion")))
+    Err(refusal(alloc, 3, &place.key("apiVersion")))
 }
 
 /// The kind of an object, if it is accepted and the version is the kind's.
@@ -111,12 +108,12 @@ fn read_kind(
     alloc: Global,
     kinds: KindSet,
     heading: &Heading,
-    place: &Place,
+    place: &Location<'_>,
 ) -> Result<ObjectKind, Rejected>
     ensures { Reads (accepted kinds heading.now place.now) (kind_told kinds heading.now.kind) result }
 {
     let Some(kind) = kind_named(kinds, heading.kind.as_str()) else {
-        return Err(refusal(alloc, 4, Location::Member(place, "kind")));
+        return Err(refusal(alloc, 4, &place.key("kind")));
     };
     check_version(alloc, version_of(kind), heading.version.as_str(), place)?;
     Ok(kind)
@@ -140,15 +137,14 @@ impl Reader for MetadataForm {
     ghost value_of = { naming_of };
 
     #[tactic(auto, unfolding(crate::specs::Item::metadata, crate::specs::Item::metadata_fields, crate::specs::Item::is_named, crate::specs::Item::naming_of))]
-    fn read(alloc: Global, value: &Json, location: Location) -> Result<Naming, Rejected> {
-        let place = place_at(alloc, location)?;
-        check_shape(alloc, value, &place)?;
-        let name = optional::<TextThat<ObjectName>>(alloc, value, &place, "name")?;
-        let prefix = optional::<TextThat<NamePrefix>>(alloc, value, &place, "generateName")?;
+    fn read(alloc: Global, value: &Json, location: &Location<'_>) -> Result<Naming, Rejected> {
+        check_shape(alloc, value, location)?;
+        let name = optional::<TextThat<ObjectName>>(alloc, value, location, "name")?;
+        let prefix = optional::<TextThat<NamePrefix>>(alloc, value, location, "generateName")?;
         match (name, prefix) {
             (Some(name), _) => Ok(Naming::Name(name)),
             (None, Some(prefix)) => Ok(Naming::Prefix(prefix)),
-            (None, None) => Err(refusal(alloc, 5, Location::Member(&place, "name"))),
+            (None, None) => Err(refusal(alloc, 5, &location.key("name"))),
         }
     }
 }
@@ -169,7 +165,7 @@ fn name_at(alloc: Global, naming: Naming, index: u64) -> Result<Text, AllocError
 
 /// Refuses what is no object with the keys of a Tekton object.
 #[tactic(auto, unfolding(crate::specs::Item::object_keys))]
-fn check_keys(alloc: Global, value: &Json, place: &Place) -> Result<(), Rejected>
+fn check_keys(alloc: Global, value: &Json, place: &Location<'_>) -> Result<(), Rejected>
     ensures { Reads (object_keys place.now (view value.now)) tt result }
 {
     let table = field_table!(Used "apiVersion" "kind" "metadata" "spec", Ignored "status");
@@ -178,7 +174,7 @@ fn check_keys(alloc: Global, value: &Json, place: &Place) -> Result<(), Rejected
 
 /// What an object's metadata says of its name.
 #[tactic(auto, unfolding(crate::specs::Item::object_metadata))]
-fn read_metadata(alloc: Global, value: &Json, place: &Place) -> Result<Naming, Rejected>
+fn read_metadata(alloc: Global, value: &Json, place: &Location<'_>) -> Result<Naming, Rejected>
     ensures { Reads (object_metadata place.now (view value.now)) (naming_of (at (codes "metadata") (view value.now))) result }
 {
     required::<MetadataForm>(alloc, value, place, "metadata")
@@ -191,13 +187,13 @@ fn read_spec_field(
     kind: ObjectKind,
     name: Text,
     value: &Json,
-    place: &Place,
+    place: &Location<'_>,
 ) -> Result<ItemObject, Rejected>
     ensures { Reads (object_spec kind place.now (view value.now)) (object_made kind name (at (codes "spec") (view value.now))) result }
 {
     match value.get("spec") {
-        Some(spec) => read_spec(alloc, kind, name, spec, &place.key(alloc, "spec")?),
-        None => Err(refusal(alloc, 5, Location::Member(place, "spec"))),
+        Some(spec) => read_spec(alloc, kind, name, spec, &place.key("spec")),
+        None => Err(refusal(alloc, 5, &place.key("spec"))),
     }
 }
 
@@ -208,7 +204,7 @@ fn read_object(
     kind: ObjectKind,
     index: u64,
     value: &Json,
-    place: &Place,
+    place: &Location<'_>,
 ) -> Result<ItemObject, Rejected>
     ensures { Reads (object kind place.now (view value.now)) (object_of kind index (view value.now)) result }
 {
@@ -226,13 +222,16 @@ pub fn read_headed(
     heading: &Heading,
     index: u64,
     value: &Json,
-    place: Place,
+    place: &Location<'_>,
 ) -> Result<Item, Rejected>
-    ensures { Reads (headed kinds heading.now place (view value.now)) (headed_at kinds heading.now place index (view value.now)) result }
+    ensures { Reads (headed kinds heading.now place.now (view value.now)) (headed_at kinds heading.now place.now index (view value.now)) result }
 {
-    let kind = read_kind(alloc, kinds, heading, &place)?;
-    let object = read_object(alloc, kind, index, value, &place)?;
-    Ok(Item { place, object })
+    let kind = read_kind(alloc, kinds, heading, place)?;
+    let object = read_object(alloc, kind, index, value, place)?;
+    Ok(Item {
+        place: place_at(alloc, place)?,
+        object,
+    })
 }
 
 /// The object at an index of the input, with its place.
@@ -242,10 +241,10 @@ pub fn read_item(
     kinds: KindSet,
     index: u64,
     value: &Json,
-    place: Place,
+    place: &Location<'_>,
 ) -> Result<Item, Rejected>
-    ensures { Reads (item kinds place (view value.now)) (item_at kinds place index (view value.now)) result }
+    ensures { Reads (item kinds place.now (view value.now)) (item_at kinds place.now index (view value.now)) result }
 {
-    let heading = read_heading(alloc, value, &place)?;
+    let heading = read_heading(alloc, value, place)?;
     Ok(read_headed(alloc, kinds, &heading, index, value, place)?)
 }

@@ -11,7 +11,7 @@ use serde_json::Value as Json;
 use std::alloc::Global;
 use tk_fields::{Location, Reader};
 use tk_scenario::read_scenario;
-use tk_types::{ItemObject, Place, Rejected, Text};
+use tk_types::{ItemObject, Rejected, Text};
 
 /// The kinds of objects that an input may have: the four of Tekton, and perhaps one of this program's own.
 #[derive(Clone, Copy, Debug, PartialEq, Eq)]
@@ -75,27 +75,27 @@ pub fn read_spec(
     kind: ObjectKind,
     name: Text,
     value: &Json,
-    place: &Place,
+    place: &Location<'_>,
 ) -> Result<ItemObject, Rejected>
     ensures { Reads (spec kind place.now (view value.now)) (object_made kind name (view value.now)) result }
 {
     match kind {
         ObjectKind::Task => {
-            let spec = TaskSpecForm::read(alloc, value, Location::Here(place))?;
+            let spec = TaskSpecForm::read(alloc, value, place)?;
             Ok(ItemObject::Task { name, spec })
         }
         ObjectKind::TaskRun => {
             Ok(ItemObject::TaskRun(read_task_run(alloc, name, value, place)?))
         }
         ObjectKind::Pipeline => {
-            let spec = PipelineSpecForm::read(alloc, value, Location::Here(place))?;
+            let spec = PipelineSpecForm::read(alloc, value, place)?;
             Ok(ItemObject::Pipeline { name, spec })
         }
         ObjectKind::PipelineRun => {
             Ok(ItemObject::PipelineRun(read_run(alloc, name, value, place)?))
         }
         ObjectKind::Outcomes => {
-            let spec = OutcomesForm::read(alloc, value, Location::Here(place))?;
+            let spec = OutcomesForm::read(alloc, value, place)?;
             Ok(ItemObject::Outcomes { name, spec })
         }
         ObjectKind::Scenario => {

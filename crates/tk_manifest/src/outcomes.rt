@@ -2,19 +2,13 @@ ghost use Rattle.std.specs.Prelude.{◌≡◌, ◌^◌, ◌<◌, codes, map};
 ghost use Rattle.serde_json.specs.View.{view};
 ghost use Rattle.tk_types.specs.Rejected.{Reads};
 ghost use Rattle.tk_fields.specs.Get.{list_of, number_at, text_at};
-ghost use Rattle.tk_fields.specs.Location.{place_of};
 ghost use Rattle.tk_manifest.specs.Outcomes.{child, child_back, child_front, child_keys, child_of, exit_of, first_low, level_of as level_of_stop, misplaced, outcome_named, outcome_with, outcome_words, outcomes, outcomes_fields, outcomes_keys, outcomes_of, param_named, results_of, rising_stops, stop_above, stop_named as stop_by_name, stop_of, word_of};
 
 use crate::parameter::{ValueForm, has_field};
 use serde_json::Value as Json;
 use std::alloc::Global;
-use tk_fields::{
-    AnyText, Below8, Below32, Each, EachMember, Entry, Location, OneOf, OrEmpty, Reader, Words,
-    check_object, elements_of, field_table, optional, or_empty, place_at, refusal, required,
-};
-use tk_types::{
-    List, Outcome, OutcomesChild, OutcomesSpec, Param, Place, Rejected, Stop, Text, Value,
-};
+use tk_fields::{AnyText, Below8, Below32, Each, EachMember, Entry, Location, OneOf, OrEmpty, Reader, Words, check_object, elements_of, field_table, optional, or_empty, refusal, required};
+use tk_types::{List, Outcome, OutcomesChild, OutcomesSpec, Param, Rejected, Stop, Text, Value};
 
 /// The stop of a name.
 fn stop_named(name: &str) -> Option<Stop>
@@ -46,8 +40,8 @@ fn level_of(stop: Stop) -> u32
 
 /// A stop whose level is above another, else `BadChoice`.
 #[tactic(auto, unfolding(crate::specs::Outcomes::stop_above, crate::specs::Outcomes::stop_of))]
-fn read_stop(alloc: Global, value: &Json, level: u32, location: Location) -> Result<Stop, Rejected>
-    ensures { Reads (stop_above level (place_of location.entry) (view value.now)) (stop_of (view value.now)) result }
+fn read_stop(alloc: Global, value: &Json, level: u32, location: &Location<'_>) -> Result<Stop, Rejected>
+    ensures { Reads (stop_above level location.now (view value.now)) (stop_of (view value.now)) result }
 {
     let Some(name) = value.as_str() else {
         return Err(refusal(alloc, 2, location));
@@ -59,14 +53,14 @@ fn read_stop(alloc: Global, value: &Json, level: u32, location: Location) -> Res
 }
 
 /// Stops whose levels rise.
-fn read_stops(alloc: Global, items: &[Json], place: &Place) -> Result<List<Stop>, Rejected>
+fn read_stops(alloc: Global, items: &[Json], place: &Location<'_>) -> Result<List<Stop>, Rejected>
     ensures { Reads (first_low place.now 0 0 (map view items.now)) (map stop_of (map view items.now)) result }
 {
     let mut stops = List::new(alloc);
     let mut level = 0;
     for item in items {
         let index = stops.len() as u64;
-        let stop = read_stop(alloc, item, level, Location::Element(place, index))?;
+        let stop = read_stop(alloc, item, level, &(&*place).at(index))?;
         level = level_of(stop);
         stops.push(stop)?;
     }
@@ -84,9 +78,9 @@ impl Reader for StopsForm {
     ghost value_of = { list_of stop_of };
 
     #[tactic(auto, unfolding(crate::specs::Outcomes::rising_stops))]
-    fn read(alloc: Global, value: &Json, location: Location) -> Result<List<Stop>, Rejected> {
+    fn read(alloc: Global, value: &Json, location: &Location<'_>) -> Result<List<Stop>, Rejected> {
         match elements_of(value) {
-            Some(items) => read_stops(alloc, items, &place_at(alloc, location)?),
+            Some(items) => read_stops(alloc, items, location),
             None => Err(refusal(alloc, 2, location)),
         }
     }
@@ -169,22 +163,22 @@ fn check_misplaced(
     word: OutcomeWord,
     has_exit: bool,
     has_results: bool,
-    place: &Place,
+    place: &Location<'_>,
 ) -> Result<(), Rejected>
     ensures { Reads (misplaced word has_exit has_results place.now) tt result }
 {
     match (word, has_exit, has_results) {
         (OutcomeWord::Failed, _, _) => Ok(()),
-        (_, true, _) => Err(refusal(alloc, 11, Location::Member(place, "exit"))),
+        (_, true, _) => Err(refusal(alloc, 11, &place.key("exit"))),
         (OutcomeWord::Succeeded, false, _) => Ok(()),
-        (_, false, true) => Err(refusal(alloc, 11, Location::Member(place, "results"))),
+        (_, false, true) => Err(refusal(alloc, 11, &place.key("results"))),
         (_, false, false) => Ok(()),
     }
 }
 
 /// Refuses what is no object with the keys of a child.
 #[tactic(auto, unfolding(crate::specs::Outcomes::child_keys))]
-fn check_child(alloc: Global, value: &Json, place: &Place) -> Result<(), Rejected>
+fn check_child(alloc: Global, value: &Json, place: &Location<'_>) -> Result<(), Rejected>
     ensures { Reads (child_keys place.now (view value.now)) tt result }
 {
     let table = field_table!(Used "task" "index" "outcome" "exit" "results");
@@ -196,7 +190,7 @@ fn check_child(alloc: Global, value: &Json, place: &Place) -> Result<(), Rejecte
 fn read_front(
     alloc: Global,
     value: &Json,
-    place: &Place,
+    place: &Location<'_>,
 ) -> Result<(Text, u32, OutcomeWord), Rejected>
     ensures { Reads (child_front place.now (view value.now)) (text_at (codes "task") (view value.now), number_at (codes "index") (view value.now), word_of (view value.now)) result }
 {
@@ -211,7 +205,7 @@ fn read_front(
 fn read_back(
     alloc: Global,
     value: &Json,
-    place: &Place,
+    place: &Location<'_>,
 ) -> Result<(Option<u8>, List<Param>), Rejected>
     ensures { Reads (child_back place.now (view value.now)) (exit_of (view value.now), results_of (view value.now)) result }
 {
@@ -231,13 +225,12 @@ impl Reader for ChildForm {
     ghost value_of = { child_of };
 
     #[tactic(auto, unfolding(crate::specs::Outcomes::child, crate::specs::Outcomes::child_of))]
-    fn read(alloc: Global, value: &Json, location: Location) -> Result<OutcomesChild, Rejected> {
-        let place = place_at(alloc, location)?;
-        check_child(alloc, value, &place)?;
-        let (task, index, word) = read_front(alloc, value, &place)?;
-        let (exit, results) = read_back(alloc, value, &place)?;
+    fn read(alloc: Global, value: &Json, location: &Location<'_>) -> Result<OutcomesChild, Rejected> {
+        check_child(alloc, value, location)?;
+        let (task, index, word) = read_front(alloc, value, location)?;
+        let (exit, results) = read_back(alloc, value, location)?;
         let has_exit = has_field(value, "exit");
-        check_misplaced(alloc, word, has_exit, has_field(value, "results"), &place)?;
+        check_misplaced(alloc, word, has_exit, has_field(value, "results"), location)?;
         Ok(OutcomesChild {
             task,
             index,
@@ -248,7 +241,7 @@ impl Reader for ChildForm {
 
 /// Refuses what is no object with the keys of a run's outcomes.
 #[tactic(auto, unfolding(crate::specs::Outcomes::outcomes_keys))]
-fn check_outcomes(alloc: Global, value: &Json, place: &Place) -> Result<(), Rejected>
+fn check_outcomes(alloc: Global, value: &Json, place: &Location<'_>) -> Result<(), Rejected>
     ensures { Reads (outcomes_keys place.now (view value.now)) tt result }
 {
     check_object(alloc, value, &field_table!(Used "stops" "children"), place)
@@ -256,7 +249,7 @@ fn check_outcomes(alloc: Global, value: &Json, place: &Place) -> Result<(), Reje
 
 /// The stops and the children of a run.
 #[tactic(auto, unfolding(crate::specs::Outcomes::outcomes_fields, crate::specs::Outcomes::outcomes_of))]
-fn read_outcomes(alloc: Global, value: &Json, place: &Place) -> Result<OutcomesSpec, Rejected>
+fn read_outcomes(alloc: Global, value: &Json, place: &Location<'_>) -> Result<OutcomesSpec, Rejected>
     ensures { Reads (outcomes_fields place.now (view value.now)) (outcomes_of (view value.now)) result }
 {
     Ok(OutcomesSpec {
@@ -276,9 +269,8 @@ impl Reader for OutcomesForm {
     ghost value_of = { outcomes_of };
 
     #[tactic(auto, unfolding(crate::specs::Outcomes::outcomes))]
-    fn read(alloc: Global, value: &Json, location: Location) -> Result<OutcomesSpec, Rejected> {
-        let place = place_at(alloc, location)?;
-        check_outcomes(alloc, value, &place)?;
-        Ok(read_outcomes(alloc, value, &place)?)
+    fn read(alloc: Global, value: &Json, location: &Location<'_>) -> Result<OutcomesSpec, Rejected> {
+        check_outcomes(alloc, value, location)?;
+        Ok(read_outcomes(alloc, value, location)?)
     }
 }

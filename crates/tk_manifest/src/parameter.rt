@@ -9,11 +9,8 @@ ghost use Rattle.tk_manifest.specs.Parameter.{dotted, is_object_type, key_alone,
 use crate::names::{ParamName, PipelineResultName, TaskResultName};
 use serde_json::Value as Json;
 use std::alloc::Global;
-use tk_fields::{
-    AnyText, Each, EachMember, Entry, Location, OneOf, Reader, TextEntry, TextRule, TextThat,
-    Words, check_object, field_table, optional, or_empty, place_at, refusal, required,
-};
-use tk_types::{List, Param, ParamSpec, ParamType, Place, Rejected, ResultSpec, Text, Value};
+use tk_fields::{AnyText, Each, EachMember, Entry, Location, OneOf, Reader, TextEntry, TextRule, TextThat, Words, check_object, field_table, optional, or_empty, refusal, required};
+use tk_types::{List, Param, ParamSpec, ParamType, Rejected, ResultSpec, Text, Value};
 
 /// A value: a string, an array of strings or an object of strings.
 pub struct ValueForm;
@@ -26,7 +23,7 @@ impl Reader for ValueForm {
     ghost value_of = { value_of_data };
 
     #[tactic(auto, unfolding(crate::specs::Parameter::value, crate::specs::Parameter::value_of))]
-    fn read(alloc: Global, value: &Json, location: Location) -> Result<Value, Rejected> {
+    fn read(alloc: Global, value: &Json, location: &Location<'_>) -> Result<Value, Rejected> {
         match value {
             Json::String(_) => Ok(Value::Str(AnyText::read(alloc, value, location)?)),
             Json::Array(_) => Ok(Value::Arr(Each::<AnyText>::read(alloc, value, location)?)),
@@ -43,7 +40,7 @@ impl Reader for ValueForm {
 fn read_named_value<N: TextRule>(
     alloc: Global,
     value: &Json,
-    place: &Place,
+    place: &Location<'_>,
 ) -> Result<Param, Rejected>
     ensures { Reads (named_value N.obeys N.fault_number place.now (view value.now)) (param_of (view value.now)) result }
 {
@@ -64,16 +61,15 @@ impl Reader for ParamForm {
     ghost value_of = { param_of };
 
     #[tactic(auto, unfolding(crate::specs::Parameter::param_keys))]
-    fn read(alloc: Global, value: &Json, location: Location) -> Result<Param, Rejected> {
-        let place = place_at(alloc, location)?;
-        check_object(alloc, value, &field_table!(Used "name" "value"), &place)?;
-        read_named_value::<ParamName>(alloc, value, &place)
+    fn read(alloc: Global, value: &Json, location: &Location<'_>) -> Result<Param, Rejected> {
+        check_object(alloc, value, &field_table!(Used "name" "value"), location)?;
+        read_named_value::<ParamName>(alloc, value, location)
     }
 }
 
 /// Refuses what is no object with the keys of a pipeline's result.
 #[tactic(auto, unfolding(crate::specs::Parameter::pipeline_result_keys))]
-fn check_pipeline_result(alloc: Global, value: &Json, place: &Place) -> Result<(), Rejected>
+fn check_pipeline_result(alloc: Global, value: &Json, place: &Location<'_>) -> Result<(), Rejected>
     ensures { Reads (pipeline_result_keys place.now (view value.now)) tt result }
 {
     let table = field_table!(Used "name" "value", Ignored "type" "description");
@@ -90,10 +86,9 @@ impl Reader for PipelineResultForm {
 
     ghost value_of = { param_of };
 
-    fn read(alloc: Global, value: &Json, location: Location) -> Result<Param, Rejected> {
-        let place = place_at(alloc, location)?;
-        check_pipeline_result(alloc, value, &place)?;
-        read_named_value::<PipelineResultName>(alloc, value, &place)
+    fn read(alloc: Global, value: &Json, location: &Location<'_>) -> Result<Param, Rejected> {
+        check_pipeline_result(alloc, value, location)?;
+        read_named_value::<PipelineResultName>(alloc, value, location)
     }
 }
 
@@ -131,12 +126,11 @@ impl Reader for PropertyForm {
     fn read(
         alloc: Global,
         value: &Json,
-        location: Location,
+        location: &Location<'_>,
     ) -> Result<Option<ParamType>, Rejected> {
-        let place = place_at(alloc, location)?;
         let table = field_table!(Used "type", Ignored "description");
-        check_object(alloc, value, &table, &place)?;
-        optional::<OneOf<TypeWords>>(alloc, value, &place, "type")
+        check_object(alloc, value, &table, location)?;
+        optional::<OneOf<TypeWords>>(alloc, value, location, "type")
     }
 }
 
@@ -192,7 +186,7 @@ pub fn has_field(value: &Json, key: &str) -> bool
 
 /// The declared keys of an object.
 #[tactic(auto, unfolding(crate::specs::Parameter::properties, crate::specs::Parameter::property_names))]
-fn read_properties(alloc: Global, value: &Json, place: &Place) -> Result<List<Text>, Rejected>
+fn read_properties(alloc: Global, value: &Json, place: &Location<'_>) -> Result<List<Text>, Rejected>
     ensures { Reads (properties place.now (view value.now)) (property_names (view value.now)) result }
 {
     or_empty::<EachMember<PropertyEntry>>(alloc, value, place, "properties")
@@ -203,7 +197,7 @@ fn read_properties(alloc: Global, value: &Json, place: &Place) -> Result<List<Te
 fn read_typed_name<N: TextRule>(
     alloc: Global,
     value: &Json,
-    place: &Place,
+    place: &Location<'_>,
 ) -> Result<(Text, Option<ParamType>), Rejected>
     ensures { Reads (typed_name N.obeys N.fault_number place.now (view value.now)) (text_at (codes "name") (view value.now), written_type (view value.now)) result }
 {
@@ -228,18 +222,18 @@ fn has_dot(name: &str) -> bool
 
 /// Refuses an object parameter whose name has a dot.
 #[tactic(auto, unfolding(crate::specs::Parameter::dotted))]
-fn check_dots(alloc: Global, kind: ParamType, name: &str, place: &Place) -> Result<(), Rejected>
+fn check_dots(alloc: Global, kind: ParamType, name: &str, place: &Location<'_>) -> Result<(), Rejected>
     ensures { Reads (dotted kind name.now place.now) tt result }
 {
     if is_object(kind) && has_dot(name) {
-        return Err(refusal(alloc, 8, Location::Member(place, "name")));
+        return Err(refusal(alloc, 8, &place.key("name")));
     }
     Ok(())
 }
 
 /// Refuses what is no object with the keys of a declared parameter.
 #[tactic(auto, unfolding(crate::specs::Parameter::param_spec_keys))]
-fn check_param_spec(alloc: Global, value: &Json, place: &Place) -> Result<(), Rejected>
+fn check_param_spec(alloc: Global, value: &Json, place: &Location<'_>) -> Result<(), Rejected>
     ensures { Reads (param_spec_keys place.now (view value.now)) tt result }
 {
     let table = field_table!(
@@ -261,14 +255,13 @@ impl Reader for ParamSpecForm {
     ghost value_of = { param_spec_of };
 
     #[tactic(auto, unfolding(crate::specs::Parameter::param_spec, crate::specs::Parameter::param_spec_of))]
-    fn read(alloc: Global, value: &Json, location: Location) -> Result<ParamSpec, Rejected> {
-        let place = place_at(alloc, location)?;
-        check_param_spec(alloc, value, &place)?;
-        let (name, written) = read_typed_name::<ParamName>(alloc, value, &place)?;
-        let default_value = optional::<ValueForm>(alloc, value, &place, "default")?;
-        let properties = read_properties(alloc, value, &place)?;
+    fn read(alloc: Global, value: &Json, location: &Location<'_>) -> Result<ParamSpec, Rejected> {
+        check_param_spec(alloc, value, location)?;
+        let (name, written) = read_typed_name::<ParamName>(alloc, value, location)?;
+        let default_value = optional::<ValueForm>(alloc, value, location, "default")?;
+        let properties = read_properties(alloc, value, location)?;
         let kind = type_by(written, has_field(value, "properties"), &default_value);
-        check_dots(alloc, kind, name.as_str(), &place)?;
+        check_dots(alloc, kind, name.as_str(), location)?;
         Ok(ParamSpec {
             name,
             kind,
@@ -280,7 +273,7 @@ impl Reader for ParamSpecForm {
 
 /// Refuses what is no object with the keys of a result that a Task declares.
 #[tactic(auto, unfolding(crate::specs::Parameter::task_result_keys))]
-fn check_task_result(alloc: Global, value: &Json, place: &Place) -> Result<(), Rejected>
+fn check_task_result(alloc: Global, value: &Json, place: &Location<'_>) -> Result<(), Rejected>
     ensures { Reads (task_result_keys place.now (view value.now)) tt result }
 {
     let table = field_table!(
@@ -302,11 +295,10 @@ impl Reader for TaskResultForm {
     ghost value_of = { task_result_of };
 
     #[tactic(auto, unfolding(crate::specs::Parameter::task_result, crate::specs::Parameter::task_result_of))]
-    fn read(alloc: Global, value: &Json, location: Location) -> Result<ResultSpec, Rejected> {
-        let place = place_at(alloc, location)?;
-        check_task_result(alloc, value, &place)?;
-        let (name, written) = read_typed_name::<TaskResultName>(alloc, value, &place)?;
-        let _keys = read_properties(alloc, value, &place)?;
+    fn read(alloc: Global, value: &Json, location: &Location<'_>) -> Result<ResultSpec, Rejected> {
+        check_task_result(alloc, value, location)?;
+        let (name, written) = read_typed_name::<TaskResultName>(alloc, value, location)?;
+        let _keys = read_properties(alloc, value, location)?;
         let kind = type_by(written, has_field(value, "properties"), &None);
         Ok(ResultSpec { name, kind })
     }

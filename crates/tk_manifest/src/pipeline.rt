@@ -14,15 +14,9 @@ use crate::task::{read_on_error, read_task_source};
 use crate::workspace::{PipelineSpaceForm, SpaceUseForm};
 use serde_json::Value as Json;
 use std::alloc::Global;
-use tk_fields::{
-    AnyText, Below32, Each, Location, OneOf, OrEmpty, Reader, SomeOf, TextThat, Words,
-    check_object, field_table, just_one, optional, or_empty, place_at, refusal, required,
-};
+use tk_fields::{AnyText, Below32, Each, Location, OneOf, OrEmpty, Reader, SomeOf, TextThat, Words, check_object, field_table, just_one, optional, or_empty, refusal, required};
 use tk_time::read_duration;
-use tk_types::{
-    List, Matrix, Param, PipelineSpec, PipelineTask, Place, Rejected, SpaceUse, TaskSource, Text,
-    When,
-};
+use tk_types::{List, Matrix, Param, PipelineSpec, PipelineTask, Rejected, SpaceUse, TaskSource, Text, When};
 
 /// A duration, in milliseconds; a text that is none is `BadDuration`.
 pub struct DurationForm;
@@ -35,7 +29,7 @@ impl Reader for DurationForm {
     ghost value_of = { millis_of };
 
     #[tactic(auto, unfolding(crate::specs::Pipeline::duration, crate::specs::Pipeline::millis_of))]
-    fn read(alloc: Global, value: &Json, location: Location) -> Result<u64, Rejected> {
+    fn read(alloc: Global, value: &Json, location: &Location<'_>) -> Result<u64, Rejected> {
         let Some(text) = value.as_str() else {
             return Err(refusal(alloc, 2, location));
         };
@@ -74,7 +68,7 @@ impl Words for OperatorWords {
 
 /// Refuses what is no object with the keys of a guard.
 #[tactic(auto, unfolding(crate::specs::Pipeline::when_keys))]
-fn check_when(alloc: Global, value: &Json, place: &Place) -> Result<(), Rejected>
+fn check_when(alloc: Global, value: &Json, place: &Location<'_>) -> Result<(), Rejected>
     ensures { Reads (when_keys place.now (view value.now)) tt result }
 {
     let table = field_table!(Used "input" "operator" "values", Refused "cel");
@@ -83,7 +77,7 @@ fn check_when(alloc: Global, value: &Json, place: &Place) -> Result<(), Rejected
 
 /// The fields of a guard.
 #[tactic(auto, unfolding(crate::specs::Pipeline::when_fields, crate::specs::Pipeline::when_of))]
-fn read_when(alloc: Global, value: &Json, place: &Place) -> Result<When, Rejected>
+fn read_when(alloc: Global, value: &Json, place: &Location<'_>) -> Result<When, Rejected>
     ensures { Reads (when_fields place.now (view value.now)) (when_of (view value.now)) result }
 {
     Ok(When {
@@ -104,16 +98,15 @@ impl Reader for WhenForm {
     ghost value_of = { when_of };
 
     #[tactic(auto, unfolding(crate::specs::Pipeline::when))]
-    fn read(alloc: Global, value: &Json, location: Location) -> Result<When, Rejected> {
-        let place = place_at(alloc, location)?;
-        check_when(alloc, value, &place)?;
-        Ok(read_when(alloc, value, &place)?)
+    fn read(alloc: Global, value: &Json, location: &Location<'_>) -> Result<When, Rejected> {
+        check_when(alloc, value, location)?;
+        Ok(read_when(alloc, value, location)?)
     }
 }
 
 /// Refuses what is no object with the keys of a combination that a matrix adds.
 #[tactic(auto, unfolding(crate::specs::Pipeline::include_keys))]
-fn check_include(alloc: Global, value: &Json, place: &Place) -> Result<(), Rejected>
+fn check_include(alloc: Global, value: &Json, place: &Location<'_>) -> Result<(), Rejected>
     ensures { Reads (include_keys place.now (view value.now)) tt result }
 {
     let table = field_table!(Used "params", Ignored "name");
@@ -131,16 +124,15 @@ impl Reader for IncludeForm {
     ghost value_of = { include_of };
 
     #[tactic(auto, unfolding(crate::specs::Pipeline::include_entry, crate::specs::Pipeline::include_params))]
-    fn read(alloc: Global, value: &Json, location: Location) -> Result<List<Param>, Rejected> {
-        let place = place_at(alloc, location)?;
-        check_include(alloc, value, &place)?;
-        Ok(required::<Each<ParamForm>>(alloc, value, &place, "params")?)
+    fn read(alloc: Global, value: &Json, location: &Location<'_>) -> Result<List<Param>, Rejected> {
+        check_include(alloc, value, location)?;
+        Ok(required::<Each<ParamForm>>(alloc, value, location, "params")?)
     }
 }
 
 /// Refuses what is no object with the keys of a matrix.
 #[tactic(auto, unfolding(crate::specs::Pipeline::matrix_keys))]
-fn check_matrix(alloc: Global, value: &Json, place: &Place) -> Result<(), Rejected>
+fn check_matrix(alloc: Global, value: &Json, place: &Location<'_>) -> Result<(), Rejected>
     ensures { Reads (matrix_keys place.now (view value.now)) tt result }
 {
     check_object(alloc, value, &field_table!(Used "params" "include"), place)
@@ -148,7 +140,7 @@ fn check_matrix(alloc: Global, value: &Json, place: &Place) -> Result<(), Reject
 
 /// The fields of a matrix.
 #[tactic(auto, unfolding(crate::specs::Pipeline::matrix_fields, crate::specs::Pipeline::matrix_of))]
-fn read_matrix(alloc: Global, value: &Json, place: &Place) -> Result<Matrix, Rejected>
+fn read_matrix(alloc: Global, value: &Json, place: &Location<'_>) -> Result<Matrix, Rejected>
     ensures { Reads (matrix_fields place.now (view value.now)) (matrix_of (view value.now)) result }
 {
     Ok(Matrix {
@@ -159,11 +151,11 @@ fn read_matrix(alloc: Global, value: &Json, place: &Place) -> Result<Matrix, Rej
 
 /// Refuses a matrix that has nothing to combine.
 #[tactic(auto, unfolding(crate::specs::Pipeline::empty_matrix))]
-fn check_combinations(alloc: Global, matrix: &Matrix, place: &Place) -> Result<(), Rejected>
+fn check_combinations(alloc: Global, matrix: &Matrix, place: &Location<'_>) -> Result<(), Rejected>
     ensures { Reads (empty_matrix matrix.now place.now) tt result }
 {
     if matrix.params.is_empty() && matrix.include.is_empty() {
-        return Err(refusal(alloc, 5, Location::Here(place)));
+        return Err(refusal(alloc, 5, place));
     }
     Ok(())
 }
@@ -179,18 +171,17 @@ impl Reader for MatrixForm {
     ghost value_of = { matrix_of };
 
     #[tactic(auto, unfolding(crate::specs::Pipeline::matrix))]
-    fn read(alloc: Global, value: &Json, location: Location) -> Result<Matrix, Rejected> {
-        let place = place_at(alloc, location)?;
-        check_matrix(alloc, value, &place)?;
-        let matrix = read_matrix(alloc, value, &place)?;
-        check_combinations(alloc, &matrix, &place)?;
+    fn read(alloc: Global, value: &Json, location: &Location<'_>) -> Result<Matrix, Rejected> {
+        check_matrix(alloc, value, location)?;
+        let matrix = read_matrix(alloc, value, location)?;
+        check_combinations(alloc, &matrix, location)?;
         Ok(matrix)
     }
 }
 
 /// Refuses what is no object with the keys of a pipeline task.
 #[tactic(auto, unfolding(crate::specs::Pipeline::pipeline_task_keys))]
-fn check_pipeline_task(alloc: Global, value: &Json, place: &Place) -> Result<(), Rejected>
+fn check_pipeline_task(alloc: Global, value: &Json, place: &Location<'_>) -> Result<(), Rejected>
     ensures { Reads (pipeline_task_keys place.now (view value.now)) tt result }
 {
     let table = field_table!(
@@ -213,7 +204,7 @@ struct TaskInputs {
 
 /// The parameters of a pipeline task, its matrix, the tasks before it and its guards.
 #[tactic(auto, unfolding(crate::specs::Pipeline::task_inputs, crate::specs::Pipeline::task_inputs_of))]
-fn read_inputs(alloc: Global, value: &Json, place: &Place) -> Result<TaskInputs, Rejected>
+fn read_inputs(alloc: Global, value: &Json, place: &Location<'_>) -> Result<TaskInputs, Rejected>
     ensures { Reads (task_inputs place.now (view value.now)) (task_inputs_of (view value.now)) result }
 {
     Ok(TaskInputs {
@@ -226,7 +217,7 @@ fn read_inputs(alloc: Global, value: &Json, place: &Place) -> Result<TaskInputs,
 
 /// The retries of a pipeline task, and its timeout in milliseconds, where 0 is none.
 #[tactic(auto, unfolding(crate::specs::Pipeline::task_limits))]
-fn read_limits(alloc: Global, value: &Json, place: &Place) -> Result<(u32, u64), Rejected>
+fn read_limits(alloc: Global, value: &Json, place: &Location<'_>) -> Result<(u32, u64), Rejected>
     ensures { Reads (task_limits place.now (view value.now)) (number_at (codes "retries") (view value.now), millis_of (at (codes "timeout") (view value.now))) result }
 {
     let retries = or_empty::<Below32>(alloc, value, place, "retries")?;
@@ -236,7 +227,7 @@ fn read_limits(alloc: Global, value: &Json, place: &Place) -> Result<(u32, u64),
 
 /// The workspaces that a pipeline task hands to its Task.
 #[tactic(auto, unfolding(crate::specs::Pipeline::task_spaces))]
-fn read_task_spaces(alloc: Global, value: &Json, place: &Place) -> Result<List<SpaceUse>, Rejected>
+fn read_task_spaces(alloc: Global, value: &Json, place: &Location<'_>) -> Result<List<SpaceUse>, Rejected>
     ensures { Reads (task_spaces place.now (view value.now)) (list_at space_use_of (codes "workspaces") (view value.now)) result }
 {
     or_empty::<Each<SpaceUseForm>>(alloc, value, place, "workspaces")
@@ -253,7 +244,7 @@ struct TaskOptions {
 
 /// The last fields of a pipeline task.
 #[tactic(auto, unfolding(crate::specs::Pipeline::task_options, crate::specs::Pipeline::task_options_of))]
-fn read_options(alloc: Global, value: &Json, place: &Place) -> Result<TaskOptions, Rejected>
+fn read_options(alloc: Global, value: &Json, place: &Location<'_>) -> Result<TaskOptions, Rejected>
     ensures { Reads (task_options place.now (view value.now)) (task_options_of (view value.now)) result }
 {
     let (retries, timeout) = read_limits(alloc, value, place)?;
@@ -273,19 +264,19 @@ fn check_ignored(
     alloc: Global,
     ignore_failure: bool,
     retries: u32,
-    place: &Place,
+    place: &Location<'_>,
 ) -> Result<(), Rejected>
     ensures { Reads (ignored_with_retries ignore_failure retries place.now) tt result }
 {
     if ignore_failure && 0 < retries {
-        return Err(refusal(alloc, 11, Location::Member(place, "onError")));
+        return Err(refusal(alloc, 11, &place.key("onError")));
     }
     Ok(())
 }
 
 /// The name of a pipeline task, and its Task.
 #[tactic(auto, unfolding(crate::specs::Pipeline::task_front))]
-fn read_front(alloc: Global, value: &Json, place: &Place) -> Result<(Text, TaskSource), Rejected>
+fn read_front(alloc: Global, value: &Json, place: &Location<'_>) -> Result<(Text, TaskSource), Rejected>
     ensures { Reads (task_front place.now (view value.now)) (text_at (codes "name") (view value.now), task_source_of (view value.now)) result }
 {
     let name = required::<TextThat<DnsLabel>>(alloc, value, place, "name")?;
@@ -299,7 +290,7 @@ fn check_rules(
     alloc: Global,
     value: &Json,
     options: &TaskOptions,
-    place: &Place,
+    place: &Location<'_>,
 ) -> Result<(), Rejected>
     requires { options.now ≡ task_options_of (view value.now) }
     ensures { Reads (task_rules place.now (view value.now)) tt result }
@@ -320,13 +311,12 @@ impl Reader for PipelineTaskForm {
     ghost value_of = { pipeline_task_of };
 
     #[tactic(auto, unfolding(crate::specs::Pipeline::pipeline_task, crate::specs::Pipeline::pipeline_task_of, crate::specs::Pipeline::task_inputs_of, crate::specs::Pipeline::task_options_of))]
-    fn read(alloc: Global, value: &Json, location: Location) -> Result<PipelineTask, Rejected> {
-        let place = place_at(alloc, location)?;
-        check_pipeline_task(alloc, value, &place)?;
-        let (name, source) = read_front(alloc, value, &place)?;
-        let inputs = read_inputs(alloc, value, &place)?;
-        let options = read_options(alloc, value, &place)?;
-        check_rules(alloc, value, &options, &place)?;
+    fn read(alloc: Global, value: &Json, location: &Location<'_>) -> Result<PipelineTask, Rejected> {
+        check_pipeline_task(alloc, value, location)?;
+        let (name, source) = read_front(alloc, value, location)?;
+        let inputs = read_inputs(alloc, value, location)?;
+        let options = read_options(alloc, value, location)?;
+        check_rules(alloc, value, &options, location)?;
         Ok(PipelineTask {
             name,
             source,
@@ -344,7 +334,7 @@ impl Reader for PipelineTaskForm {
 
 /// Refuses what is no object with the keys of a Pipeline's spec.
 #[tactic(auto, unfolding(crate::specs::Pipeline::pipeline_spec_keys))]
-fn check_pipeline_spec(alloc: Global, value: &Json, place: &Place) -> Result<(), Rejected>
+fn check_pipeline_spec(alloc: Global, value: &Json, place: &Location<'_>) -> Result<(), Rejected>
     ensures { Reads (pipeline_spec_keys place.now (view value.now)) tt result }
 {
     let table = field_table!(
@@ -356,7 +346,7 @@ fn check_pipeline_spec(alloc: Global, value: &Json, place: &Place) -> Result<(),
 
 /// The fields of a Pipeline's spec.
 #[tactic(auto, unfolding(crate::specs::Pipeline::pipeline_spec_fields, crate::specs::Pipeline::pipeline_spec_of))]
-fn read_pipeline_spec(alloc: Global, value: &Json, place: &Place) -> Result<PipelineSpec, Rejected>
+fn read_pipeline_spec(alloc: Global, value: &Json, place: &Location<'_>) -> Result<PipelineSpec, Rejected>
     ensures { Reads (pipeline_spec_fields place.now (view value.now)) (pipeline_spec_of (view value.now)) result }
 {
     Ok(PipelineSpec {
@@ -379,9 +369,8 @@ impl Reader for PipelineSpecForm {
     ghost value_of = { pipeline_spec_of };
 
     #[tactic(auto, unfolding(crate::specs::Pipeline::pipeline_spec))]
-    fn read(alloc: Global, value: &Json, location: Location) -> Result<PipelineSpec, Rejected> {
-        let place = place_at(alloc, location)?;
-        check_pipeline_spec(alloc, value, &place)?;
-        Ok(read_pipeline_spec(alloc, value, &place)?)
+    fn read(alloc: Global, value: &Json, location: &Location<'_>) -> Result<PipelineSpec, Rejected> {
+        check_pipeline_spec(alloc, value, location)?;
+        Ok(read_pipeline_spec(alloc, value, location)?)
     }
 }

@@ -12,21 +12,15 @@ use crate::task::read_task_source;
 use crate::workspace::BindingForm;
 use serde_json::Value as Json;
 use std::alloc::Global;
-use tk_fields::{
-    AnyText, Below32, Each, Location, OneOf, OrEmpty, Reader, Words, check_object, field_table,
-    just_one, optional, or_empty, place_at, required,
-};
-use tk_types::{
-    Asked, Given3, List, Param, PipelineSource, Place, Rejected, RunObject, Space, TaskRunObject,
-    Text,
-};
+use tk_fields::{AnyText, Below32, Each, Location, OneOf, OrEmpty, Reader, Words, check_object, field_table, just_one, optional, or_empty, required};
+use tk_types::{Asked, Given3, List, Param, PipelineSource, Rejected, RunObject, Space, TaskRunObject, Text};
 
 /// How long a TaskRun may take where it doesn't say so, in milliseconds.
 const ONE_HOUR: u64 = 3_600_000;
 
 /// Refuses what is no object with the keys of a reference to a Pipeline.
 #[tactic(auto, unfolding(crate::specs::Run::pipeline_ref_keys))]
-fn check_pipeline_ref(alloc: Global, value: &Json, place: &Place) -> Result<(), Rejected>
+fn check_pipeline_ref(alloc: Global, value: &Json, place: &Location<'_>) -> Result<(), Rejected>
     ensures { Reads (pipeline_ref_keys place.now (view value.now)) tt result }
 {
     let table = field_table!(
@@ -48,10 +42,9 @@ impl Reader for PipelineRefForm {
     ghost value_of = { text_at (codes "name") };
 
     #[tactic(auto, unfolding(crate::specs::Run::pipeline_ref, crate::specs::Run::pipeline_ref_name))]
-    fn read(alloc: Global, value: &Json, location: Location) -> Result<Text, Rejected> {
-        let place = place_at(alloc, location)?;
-        check_pipeline_ref(alloc, value, &place)?;
-        Ok(required::<AnyText>(alloc, value, &place, "name")?)
+    fn read(alloc: Global, value: &Json, location: &Location<'_>) -> Result<Text, Rejected> {
+        check_pipeline_ref(alloc, value, location)?;
+        Ok(required::<AnyText>(alloc, value, location, "name")?)
     }
 }
 
@@ -66,7 +59,7 @@ impl OrEmpty for PipelineRefForm {
 fn read_pipeline_source(
     alloc: Global,
     value: &Json,
-    place: &Place,
+    place: &Location<'_>,
 ) -> Result<PipelineSource, Rejected>
     ensures { Reads (pipeline_source place.now (view value.now)) (pipeline_source_of (view value.now)) result }
 {
@@ -111,7 +104,7 @@ impl Words for StatusWords {
 
 /// What a manifest asks of a run (Tekton, PipelineRuns, Cancelling a PipelineRun).
 #[tactic(auto, unfolding(crate::specs::Run::run_status, crate::specs::Run::run_status_of))]
-fn read_run_status(alloc: Global, value: &Json, place: &Place) -> Result<AskedWord, Rejected>
+fn read_run_status(alloc: Global, value: &Json, place: &Location<'_>) -> Result<AskedWord, Rejected>
     ensures { Reads (run_status place.now (view value.now)) (run_status_of (view value.now)) result }
 {
     match optional::<OneOf<StatusWords>>(alloc, value, place, "status")? {
@@ -125,7 +118,7 @@ fn read_run_status(alloc: Global, value: &Json, place: &Place) -> Result<AskedWo
 
 /// Refuses what is no object with the keys of a run's timeouts.
 #[tactic(auto, unfolding(crate::specs::Run::timeouts_keys))]
-fn check_timeouts(alloc: Global, value: &Json, place: &Place) -> Result<(), Rejected>
+fn check_timeouts(alloc: Global, value: &Json, place: &Location<'_>) -> Result<(), Rejected>
     ensures { Reads (timeouts_keys place.now (view value.now)) tt result }
 {
     check_object(
@@ -138,7 +131,7 @@ fn check_timeouts(alloc: Global, value: &Json, place: &Place) -> Result<(), Reje
 
 /// The timeouts that a run writes, in milliseconds.
 #[tactic(auto, unfolding(crate::specs::Run::timeouts_fields, crate::specs::Run::timeouts_of))]
-fn read_timeouts(alloc: Global, value: &Json, place: &Place) -> Result<Given3, Rejected>
+fn read_timeouts(alloc: Global, value: &Json, place: &Location<'_>) -> Result<Given3, Rejected>
     ensures { Reads (timeouts_fields place.now (view value.now)) (timeouts_of (view value.now)) result }
 {
     Ok(Given3 {
@@ -159,10 +152,9 @@ impl Reader for TimeoutsForm {
     ghost value_of = { timeouts_of };
 
     #[tactic(auto, unfolding(crate::specs::Run::timeouts))]
-    fn read(alloc: Global, value: &Json, location: Location) -> Result<Given3, Rejected> {
-        let place = place_at(alloc, location)?;
-        check_timeouts(alloc, value, &place)?;
-        Ok(read_timeouts(alloc, value, &place)?)
+    fn read(alloc: Global, value: &Json, location: &Location<'_>) -> Result<Given3, Rejected> {
+        check_timeouts(alloc, value, location)?;
+        Ok(read_timeouts(alloc, value, location)?)
     }
 }
 
@@ -179,7 +171,7 @@ impl OrEmpty for TimeoutsForm {
 
 /// The timeouts of a run, none of which needs to be written.
 #[tactic(auto, unfolding(crate::specs::Run::run_timeouts))]
-fn read_run_timeouts(alloc: Global, value: &Json, place: &Place) -> Result<Given3, Rejected>
+fn read_run_timeouts(alloc: Global, value: &Json, place: &Location<'_>) -> Result<Given3, Rejected>
     ensures { Reads (run_timeouts place.now (view value.now)) (timeouts_of (at (codes "timeouts") (view value.now))) result }
 {
     or_empty::<TimeoutsForm>(alloc, value, place, "timeouts")
@@ -187,7 +179,7 @@ fn read_run_timeouts(alloc: Global, value: &Json, place: &Place) -> Result<Given
 
 /// The workspaces that are bound.
 #[tactic(auto, unfolding(crate::specs::Run::bindings))]
-fn read_bindings(alloc: Global, value: &Json, place: &Place) -> Result<List<Space>, Rejected>
+fn read_bindings(alloc: Global, value: &Json, place: &Location<'_>) -> Result<List<Space>, Rejected>
     ensures { Reads (bindings place.now (view value.now)) (list_at binding_of (codes "workspaces") (view value.now)) result }
 {
     or_empty::<Each<BindingForm>>(alloc, value, place, "workspaces")
@@ -195,7 +187,7 @@ fn read_bindings(alloc: Global, value: &Json, place: &Place) -> Result<List<Spac
 
 /// The parameters that are given.
 #[tactic(auto, unfolding(crate::specs::Run::given_params))]
-fn read_given_params(alloc: Global, value: &Json, place: &Place) -> Result<List<Param>, Rejected>
+fn read_given_params(alloc: Global, value: &Json, place: &Location<'_>) -> Result<List<Param>, Rejected>
     ensures { Reads (given_params place.now (view value.now)) (params_at (codes "params") (view value.now)) result }
 {
     or_empty::<Each<ParamForm>>(alloc, value, place, "params")
@@ -203,7 +195,7 @@ fn read_given_params(alloc: Global, value: &Json, place: &Place) -> Result<List<
 
 /// Refuses what is no object with the keys of a PipelineRun's spec.
 #[tactic(auto, unfolding(crate::specs::Run::run_keys))]
-fn check_run(alloc: Global, value: &Json, place: &Place) -> Result<(), Rejected>
+fn check_run(alloc: Global, value: &Json, place: &Location<'_>) -> Result<(), Rejected>
     ensures { Reads (run_keys place.now (view value.now)) tt result }
 {
     let table = field_table!(
@@ -224,7 +216,7 @@ struct RunOptions {
 
 /// The last fields of a PipelineRun.
 #[tactic(auto, unfolding(crate::specs::Run::run_options, crate::specs::Run::run_options_of))]
-fn read_run_options(alloc: Global, value: &Json, place: &Place) -> Result<RunOptions, Rejected>
+fn read_run_options(alloc: Global, value: &Json, place: &Location<'_>) -> Result<RunOptions, Rejected>
     ensures { Reads (run_options place.now (view value.now)) (run_options_of (view value.now)) result }
 {
     let asked = read_run_status(alloc, value, place)?;
@@ -243,7 +235,7 @@ pub fn read_run(
     alloc: Global,
     name: Text,
     value: &Json,
-    place: &Place,
+    place: &Location<'_>,
 ) -> Result<RunObject, Rejected>
     ensures { Reads (run_spec place.now (view value.now)) (run_of name (view value.now)) result }
 {
@@ -291,7 +283,7 @@ struct TaskRunLimits {
 
 /// Whether a TaskRun is cancelled, its timeout and its retries.
 #[tactic(auto, unfolding(crate::specs::Run::task_run_limits, crate::specs::Run::task_run_limits_of))]
-fn read_limits(alloc: Global, value: &Json, place: &Place) -> Result<TaskRunLimits, Rejected>
+fn read_limits(alloc: Global, value: &Json, place: &Location<'_>) -> Result<TaskRunLimits, Rejected>
     ensures { Reads (task_run_limits place.now (view value.now)) (task_run_limits_of (view value.now)) result }
 {
     let _status = optional::<OneOf<CancelledWords>>(alloc, value, place, "status")?;
@@ -306,7 +298,7 @@ fn read_limits(alloc: Global, value: &Json, place: &Place) -> Result<TaskRunLimi
 
 /// Refuses what is no object with the keys of a TaskRun's spec.
 #[tactic(auto, unfolding(crate::specs::Run::task_run_keys))]
-fn check_task_run(alloc: Global, value: &Json, place: &Place) -> Result<(), Rejected>
+fn check_task_run(alloc: Global, value: &Json, place: &Location<'_>) -> Result<(), Rejected>
     ensures { Reads (task_run_keys place.now (view value.now)) tt result }
 {
     let table = field_table!(
@@ -322,7 +314,7 @@ fn check_task_run(alloc: Global, value: &Json, place: &Place) -> Result<(), Reje
 fn read_task_run_options(
     alloc: Global,
     value: &Json,
-    place: &Place,
+    place: &Location<'_>,
 ) -> Result<(TaskRunLimits, List<Space>), Rejected>
     ensures { Reads (task_run_options place.now (view value.now)) (task_run_options_of (view value.now)) result }
 {
@@ -337,7 +329,7 @@ pub fn read_task_run(
     alloc: Global,
     name: Text,
     value: &Json,
-    place: &Place,
+    place: &Location<'_>,
 ) -> Result<TaskRunObject, Rejected>
     ensures { Reads (task_run_spec place.now (view value.now)) (task_run_of name (view value.now)) result }
 {

@@ -10,15 +10,12 @@ use crate::parameter::{ParamSpecForm, TaskResultForm, has_field};
 use crate::workspace::TaskSpaceForm;
 use serde_json::Value as Json;
 use std::alloc::Global;
-use tk_fields::{
-    AnyText, Each, Location, OneOf, OrEmpty, Reader, SomeOf, TextRule, TextThat, Words,
-    check_object, field_table, optional, or_empty, place_at, refusal, required,
-};
-use tk_types::{List, Pair, Place, Rejected, Step, TaskSource, TaskSpec, Text};
+use tk_fields::{AnyText, Each, Location, OneOf, OrEmpty, Reader, SomeOf, TextRule, TextThat, Words, check_object, field_table, optional, or_empty, refusal, required};
+use tk_types::{List, Pair, Rejected, Step, TaskSource, TaskSpec, Text};
 
 /// Refuses what is no object with the keys of a step's variable.
 #[tactic(auto, unfolding(crate::specs::Task::env_keys))]
-fn check_env(alloc: Global, value: &Json, place: &Place) -> Result<(), Rejected>
+fn check_env(alloc: Global, value: &Json, place: &Location<'_>) -> Result<(), Rejected>
     ensures { Reads (env_keys place.now (view value.now)) tt result }
 {
     let table = field_table!(Used "name" "value", Refused "valueFrom");
@@ -27,7 +24,7 @@ fn check_env(alloc: Global, value: &Json, place: &Place) -> Result<(), Rejected>
 
 /// The name of a step's variable, and its text.
 #[tactic(auto, unfolding(crate::specs::Task::env_fields, crate::specs::Task::env_of))]
-fn read_env(alloc: Global, value: &Json, place: &Place) -> Result<Pair, Rejected>
+fn read_env(alloc: Global, value: &Json, place: &Location<'_>) -> Result<Pair, Rejected>
     ensures { Reads (env_fields place.now (view value.now)) (env_of (view value.now)) result }
 {
     Ok(Pair {
@@ -47,10 +44,9 @@ impl Reader for EnvForm {
     ghost value_of = { env_of };
 
     #[tactic(auto, unfolding(crate::specs::Task::env))]
-    fn read(alloc: Global, value: &Json, location: Location) -> Result<Pair, Rejected> {
-        let place = place_at(alloc, location)?;
-        check_env(alloc, value, &place)?;
-        Ok(read_env(alloc, value, &place)?)
+    fn read(alloc: Global, value: &Json, location: &Location<'_>) -> Result<Pair, Rejected> {
+        check_env(alloc, value, location)?;
+        Ok(read_env(alloc, value, location)?)
     }
 }
 
@@ -75,7 +71,7 @@ impl Words for OnErrorWords {
 
 /// Whether a failure of a step, or of a pipeline task, is passed over.
 #[tactic(auto, unfolding(crate::specs::Task::on_error, crate::specs::Task::continues))]
-pub fn read_on_error(alloc: Global, value: &Json, place: &Place) -> Result<bool, Rejected>
+pub fn read_on_error(alloc: Global, value: &Json, place: &Location<'_>) -> Result<bool, Rejected>
     ensures { Reads (on_error place.now (view value.now)) (continues (view value.now)) result }
 {
     match optional::<OneOf<OnErrorWords>>(alloc, value, place, "onError")? {
@@ -90,20 +86,20 @@ fn check_command(
     alloc: Global,
     has_script: bool,
     command: &List<Text>,
-    place: &Place,
+    place: &Location<'_>,
 ) -> Result<(), Rejected>
     ensures { Reads (script_or_command has_script command.now place.now) tt result }
 {
     match (has_script, !command.is_empty()) {
-        (true, true) => Err(refusal(alloc, 11, Location::Member(place, "script"))),
-        (false, false) => Err(refusal(alloc, 7, Location::Here(place))),
+        (true, true) => Err(refusal(alloc, 11, &place.key("script"))),
+        (false, false) => Err(refusal(alloc, 7, place)),
         _ => Ok(()),
     }
 }
 
 /// Refuses what is no object with the keys of a step.
 #[tactic(auto, unfolding(crate::specs::Task::step_keys))]
-fn check_step(alloc: Global, value: &Json, place: &Place) -> Result<(), Rejected>
+fn check_step(alloc: Global, value: &Json, place: &Location<'_>) -> Result<(), Rejected>
     ensures { Reads (step_keys place.now (view value.now)) tt result }
 {
     let table = field_table!(
@@ -126,7 +122,7 @@ struct StepCommand {
 
 /// The name of a step, its command, its arguments and its script.
 #[tactic(auto, unfolding(crate::specs::Task::step_command, crate::specs::Task::step_command_of))]
-fn read_command(alloc: Global, value: &Json, place: &Place) -> Result<StepCommand, Rejected>
+fn read_command(alloc: Global, value: &Json, place: &Location<'_>) -> Result<StepCommand, Rejected>
     ensures { Reads (step_command place.now (view value.now)) (step_command_of (view value.now)) result }
 {
     Ok(StepCommand {
@@ -142,7 +138,7 @@ fn read_command(alloc: Global, value: &Json, place: &Place) -> Result<StepComman
 fn read_surroundings(
     alloc: Global,
     value: &Json,
-    place: &Place,
+    place: &Location<'_>,
 ) -> Result<(List<Pair>, Option<Text>), Rejected>
     ensures { Reads (step_surroundings place.now (view value.now)) (list_at env_of (codes "env") (view value.now), field text_of (codes "workingDir") (view value.now)) result }
 {
@@ -162,13 +158,12 @@ impl Reader for StepForm {
     ghost value_of = { step_of };
 
     #[tactic(auto, unfolding(crate::specs::Task::step, crate::specs::Task::step_of, crate::specs::Task::step_command_of))]
-    fn read(alloc: Global, value: &Json, location: Location) -> Result<Step, Rejected> {
-        let place = place_at(alloc, location)?;
-        check_step(alloc, value, &place)?;
-        let run = read_command(alloc, value, &place)?;
-        let (env, dir) = read_surroundings(alloc, value, &place)?;
-        let keep_going = read_on_error(alloc, value, &place)?;
-        check_command(alloc, has_field(value, "script"), &run.command, &place)?;
+    fn read(alloc: Global, value: &Json, location: &Location<'_>) -> Result<Step, Rejected> {
+        check_step(alloc, value, location)?;
+        let run = read_command(alloc, value, location)?;
+        let (env, dir) = read_surroundings(alloc, value, location)?;
+        let keep_going = read_on_error(alloc, value, location)?;
+        check_command(alloc, has_field(value, "script"), &run.command, location)?;
         Ok(Step {
             name: run.name,
             command: run.command,
@@ -183,7 +178,7 @@ impl Reader for StepForm {
 
 /// Refuses what is no object with the keys of a Task's spec.
 #[tactic(auto, unfolding(crate::specs::Task::task_spec_keys))]
-fn check_task_spec(alloc: Global, value: &Json, place: &Place) -> Result<(), Rejected>
+fn check_task_spec(alloc: Global, value: &Json, place: &Location<'_>) -> Result<(), Rejected>
     ensures { Reads (task_spec_keys place.now (view value.now)) tt result }
 {
     let table = field_table!(
@@ -196,7 +191,7 @@ fn check_task_spec(alloc: Global, value: &Json, place: &Place) -> Result<(), Rej
 
 /// The fields of a Task's spec.
 #[tactic(auto, unfolding(crate::specs::Task::task_spec_fields, crate::specs::Task::task_spec_of))]
-fn read_task_spec(alloc: Global, value: &Json, place: &Place) -> Result<TaskSpec, Rejected>
+fn read_task_spec(alloc: Global, value: &Json, place: &Location<'_>) -> Result<TaskSpec, Rejected>
     ensures { Reads (task_spec_fields place.now (view value.now)) (task_spec_of (view value.now)) result }
 {
     Ok(TaskSpec {
@@ -218,10 +213,9 @@ impl Reader for TaskSpecForm {
     ghost value_of = { task_spec_of };
 
     #[tactic(auto, unfolding(crate::specs::Task::task_spec))]
-    fn read(alloc: Global, value: &Json, location: Location) -> Result<TaskSpec, Rejected> {
-        let place = place_at(alloc, location)?;
-        check_task_spec(alloc, value, &place)?;
-        Ok(read_task_spec(alloc, value, &place)?)
+    fn read(alloc: Global, value: &Json, location: &Location<'_>) -> Result<TaskSpec, Rejected> {
+        check_task_spec(alloc, value, location)?;
+        Ok(read_task_spec(alloc, value, location)?)
     }
 }
 
@@ -261,7 +255,7 @@ impl TextRule for TaskVersion {
 
 /// Refuses what is no object with the keys of a reference to a Task.
 #[tactic(auto, unfolding(crate::specs::Task::task_ref_keys))]
-fn check_task_ref(alloc: Global, value: &Json, place: &Place) -> Result<(), Rejected>
+fn check_task_ref(alloc: Global, value: &Json, place: &Location<'_>) -> Result<(), Rejected>
     ensures { Reads (task_ref_keys place.now (view value.now)) tt result }
 {
     let table = field_table!(Used "name" "kind" "apiVersion", Refused "resolver" "params" "bundle");
@@ -270,7 +264,7 @@ fn check_task_ref(alloc: Global, value: &Json, place: &Place) -> Result<(), Reje
 
 /// The name in a reference to a Task.
 #[tactic(auto, unfolding(crate::specs::Task::task_ref_fields))]
-fn read_task_ref(alloc: Global, value: &Json, place: &Place) -> Result<Text, Rejected>
+fn read_task_ref(alloc: Global, value: &Json, place: &Location<'_>) -> Result<Text, Rejected>
     ensures { Reads (task_ref_fields place.now (view value.now)) (text_at (codes "name") (view value.now)) result }
 {
     let name = required::<AnyText>(alloc, value, place, "name")?;
@@ -290,10 +284,9 @@ impl Reader for TaskRefForm {
     ghost value_of = { text_at (codes "name") };
 
     #[tactic(auto, unfolding(crate::specs::Task::task_ref))]
-    fn read(alloc: Global, value: &Json, location: Location) -> Result<Text, Rejected> {
-        let place = place_at(alloc, location)?;
-        check_task_ref(alloc, value, &place)?;
-        Ok(read_task_ref(alloc, value, &place)?)
+    fn read(alloc: Global, value: &Json, location: &Location<'_>) -> Result<Text, Rejected> {
+        check_task_ref(alloc, value, location)?;
+        Ok(read_task_ref(alloc, value, location)?)
     }
 }
 
@@ -305,7 +298,7 @@ impl OrEmpty for TaskRefForm {
 
 /// The Task that a pipeline task or a TaskRun runs: `taskSpec`, or the name of `taskRef`.
 #[tactic(auto, unfolding(crate::specs::Task::task_source, crate::specs::Task::task_source_of))]
-pub fn read_task_source(alloc: Global, value: &Json, place: &Place) -> Result<TaskSource, Rejected>
+pub fn read_task_source(alloc: Global, value: &Json, place: &Location<'_>) -> Result<TaskSource, Rejected>
     ensures { Reads (task_source place.now (view value.now)) (task_source_of (view value.now)) result }
 {
     let name = or_empty::<TaskRefForm>(alloc, value, place, "taskRef")?;

@@ -8,15 +8,12 @@ ghost use Rattle.tk_manifest.specs.Workspace.{binding, binding_keys, binding_of,
 use crate::names::{DnsLabel, ObjectName, SubPath};
 use serde_json::Value as Json;
 use std::alloc::Global;
-use tk_fields::{
-    AnyText, Location, Reader, TextThat, Truth, check_object, field_table, optional, or_empty,
-    place_at, refusal, required,
-};
-use tk_types::{Place, Rejected, Space, SpaceSpec, SpaceUse, Text, TryCopy};
+use tk_fields::{AnyText, Location, Reader, TextThat, Truth, check_object, field_table, optional, or_empty, refusal, required};
+use tk_types::{Rejected, Space, SpaceSpec, SpaceUse, Text, TryCopy};
 
 /// The name of a declared workspace, and whether it may be left unbound.
 #[tactic(auto, unfolding(crate::specs::Workspace::space_fields, crate::specs::Workspace::space_spec_of))]
-fn read_space(alloc: Global, value: &Json, place: &Place) -> Result<SpaceSpec, Rejected>
+fn read_space(alloc: Global, value: &Json, place: &Location<'_>) -> Result<SpaceSpec, Rejected>
     ensures { Reads (space_fields place.now (view value.now)) (space_spec_of (view value.now)) result }
 {
     Ok(SpaceSpec {
@@ -27,7 +24,7 @@ fn read_space(alloc: Global, value: &Json, place: &Place) -> Result<SpaceSpec, R
 
 /// Refuses what is no object with the keys of a Task's workspace.
 #[tactic(auto, unfolding(crate::specs::Workspace::task_space_keys))]
-fn check_task_space(alloc: Global, value: &Json, place: &Place) -> Result<(), Rejected>
+fn check_task_space(alloc: Global, value: &Json, place: &Location<'_>) -> Result<(), Rejected>
     ensures { Reads (task_space_keys place.now (view value.now)) tt result }
 {
     let table = field_table!(
@@ -48,16 +45,15 @@ impl Reader for TaskSpaceForm {
     ghost value_of = { space_spec_of };
 
     #[tactic(auto, unfolding(crate::specs::Workspace::task_space))]
-    fn read(alloc: Global, value: &Json, location: Location) -> Result<SpaceSpec, Rejected> {
-        let place = place_at(alloc, location)?;
-        check_task_space(alloc, value, &place)?;
-        Ok(read_space(alloc, value, &place)?)
+    fn read(alloc: Global, value: &Json, location: &Location<'_>) -> Result<SpaceSpec, Rejected> {
+        check_task_space(alloc, value, location)?;
+        Ok(read_space(alloc, value, location)?)
     }
 }
 
 /// Refuses what is no object with the keys of a Pipeline's workspace.
 #[tactic(auto, unfolding(crate::specs::Workspace::pipeline_space_keys))]
-fn check_pipeline_space(alloc: Global, value: &Json, place: &Place) -> Result<(), Rejected>
+fn check_pipeline_space(alloc: Global, value: &Json, place: &Location<'_>) -> Result<(), Rejected>
     ensures { Reads (pipeline_space_keys place.now (view value.now)) tt result }
 {
     let table = field_table!(Used "name" "optional", Ignored "description");
@@ -75,16 +71,15 @@ impl Reader for PipelineSpaceForm {
     ghost value_of = { space_spec_of };
 
     #[tactic(auto, unfolding(crate::specs::Workspace::pipeline_space))]
-    fn read(alloc: Global, value: &Json, location: Location) -> Result<SpaceSpec, Rejected> {
-        let place = place_at(alloc, location)?;
-        check_pipeline_space(alloc, value, &place)?;
-        Ok(read_space(alloc, value, &place)?)
+    fn read(alloc: Global, value: &Json, location: &Location<'_>) -> Result<SpaceSpec, Rejected> {
+        check_pipeline_space(alloc, value, location)?;
+        Ok(read_space(alloc, value, location)?)
     }
 }
 
 /// A path below a workspace, empty where none is written.
 #[tactic(auto, unfolding(crate::specs::Workspace::sub_path))]
-fn read_sub_path(alloc: Global, value: &Json, place: &Place) -> Result<Text, Rejected>
+fn read_sub_path(alloc: Global, value: &Json, place: &Location<'_>) -> Result<Text, Rejected>
     ensures { Reads (sub_path place.now (view value.now)) (text_at (codes "subPath") (view value.now)) result }
 {
     match optional::<TextThat<SubPath>>(alloc, value, place, "subPath")? {
@@ -95,7 +90,7 @@ fn read_sub_path(alloc: Global, value: &Json, place: &Place) -> Result<Text, Rej
 
 /// The name of a Task's workspace, and of the pipeline's that is handed to it.
 #[tactic(auto, unfolding(crate::specs::Workspace::space_use_names))]
-fn read_space_names(alloc: Global, value: &Json, place: &Place) -> Result<(Text, Text), Rejected>
+fn read_space_names(alloc: Global, value: &Json, place: &Location<'_>) -> Result<(Text, Text), Rejected>
     ensures { Reads (space_use_names place.now (view value.now)) (text_at (codes "name") (view value.now), handed_on (view value.now)) result }
 {
     let name = required::<TextThat<DnsLabel>>(alloc, value, place, "name")?;
@@ -110,7 +105,7 @@ fn read_space_names(alloc: Global, value: &Json, place: &Place) -> Result<(Text,
 
 /// Refuses what is no object with the keys of a pipeline task's workspace.
 #[tactic(auto, unfolding(crate::specs::Workspace::space_use_keys))]
-fn check_space_use(alloc: Global, value: &Json, place: &Place) -> Result<(), Rejected>
+fn check_space_use(alloc: Global, value: &Json, place: &Location<'_>) -> Result<(), Rejected>
     ensures { Reads (space_use_keys place.now (view value.now)) tt result }
 {
     let table = field_table!(Used "name" "workspace" "subPath");
@@ -128,11 +123,10 @@ impl Reader for SpaceUseForm {
     ghost value_of = { space_use_of };
 
     #[tactic(auto, unfolding(crate::specs::Workspace::space_use, crate::specs::Workspace::space_use_of))]
-    fn read(alloc: Global, value: &Json, location: Location) -> Result<SpaceUse, Rejected> {
-        let place = place_at(alloc, location)?;
-        check_space_use(alloc, value, &place)?;
-        let (name, from) = read_space_names(alloc, value, &place)?;
-        let sub = read_sub_path(alloc, value, &place)?;
+    fn read(alloc: Global, value: &Json, location: &Location<'_>) -> Result<SpaceUse, Rejected> {
+        check_space_use(alloc, value, location)?;
+        let (name, from) = read_space_names(alloc, value, location)?;
+        let sub = read_sub_path(alloc, value, location)?;
         Ok(SpaceUse { name, from, sub })
     }
 }
@@ -147,7 +141,7 @@ impl Reader for FolderForm {
 
     ghost value_of = { λ _. tt };
 
-    fn read(alloc: Global, value: &Json, location: Location) -> Result<(), Rejected> {
+    fn read(alloc: Global, value: &Json, location: &Location<'_>) -> Result<(), Rejected> {
         match value {
             Json::Object(_) => Ok(()),
             _ => Err(refusal(alloc, 2, location)),
@@ -157,7 +151,7 @@ impl Reader for FolderForm {
 
 /// Refuses what is no object with the keys of a claim.
 #[tactic(auto, unfolding(crate::specs::Workspace::claim_keys))]
-fn check_claim(alloc: Global, value: &Json, place: &Place) -> Result<(), Rejected>
+fn check_claim(alloc: Global, value: &Json, place: &Location<'_>) -> Result<(), Rejected>
     ensures { Reads (claim_keys place.now (view value.now)) tt result }
 {
     let table = field_table!(Used "claimName", Ignored "readOnly");
@@ -175,17 +169,16 @@ impl Reader for ClaimForm {
     ghost value_of = { text_at (codes "claimName") };
 
     #[tactic(auto, unfolding(crate::specs::Workspace::claim, crate::specs::Workspace::claim_name))]
-    fn read(alloc: Global, value: &Json, location: Location) -> Result<Text, Rejected> {
-        let place = place_at(alloc, location)?;
-        check_claim(alloc, value, &place)?;
-        let name = required::<TextThat<ObjectName>>(alloc, value, &place, "claimName")?;
+    fn read(alloc: Global, value: &Json, location: &Location<'_>) -> Result<Text, Rejected> {
+        check_claim(alloc, value, location)?;
+        let name = required::<TextThat<ObjectName>>(alloc, value, location, "claimName")?;
         Ok(name)
     }
 }
 
 /// The claim of a binding, if it isn't to a folder.
 #[tactic(auto, unfolding(crate::specs::Workspace::folder_and_claim, crate::specs::Workspace::claim_of))]
-fn read_claim(alloc: Global, value: &Json, place: &Place) -> Result<Option<Text>, Rejected>
+fn read_claim(alloc: Global, value: &Json, place: &Location<'_>) -> Result<Option<Text>, Rejected>
     ensures { Reads (folder_and_claim place.now (view value.now)) (claim_of (view value.now)) result }
 {
     let _folder = optional::<FolderForm>(alloc, value, place, "emptyDir")?;
@@ -195,13 +188,13 @@ fn read_claim(alloc: Global, value: &Json, place: &Place) -> Result<Option<Text>
 
 /// Refuses a binding to neither a folder nor a claim, and one to both.
 #[tactic(auto, unfolding(crate::specs::Workspace::folder_or_claim))]
-fn check_folder_or_claim(alloc: Global, value: &Json, place: &Place) -> Result<(), Rejected>
+fn check_folder_or_claim(alloc: Global, value: &Json, place: &Location<'_>) -> Result<(), Rejected>
     ensures { Reads (folder_or_claim place.now (view value.now)) tt result }
 {
     match (value.get("emptyDir"), value.get("persistentVolumeClaim")) {
-        (None, None) => Err(refusal(alloc, 5, Location::Member(place, "emptyDir"))),
+        (None, None) => Err(refusal(alloc, 5, &place.key("emptyDir"))),
         (Some(_), Some(_)) => {
-            Err(refusal(alloc, 11, Location::Member(place, "persistentVolumeClaim")))
+            Err(refusal(alloc, 11, &place.key("persistentVolumeClaim")))
         }
         _ => Ok(()),
     }
@@ -209,7 +202,7 @@ fn check_folder_or_claim(alloc: Global, value: &Json, place: &Place) -> Result<(
 
 /// Refuses what is no object with the keys of a binding.
 #[tactic(auto, unfolding(crate::specs::Workspace::binding_keys))]
-fn check_binding(alloc: Global, value: &Json, place: &Place) -> Result<(), Rejected>
+fn check_binding(alloc: Global, value: &Json, place: &Location<'_>) -> Result<(), Rejected>
     ensures { Reads (binding_keys place.now (view value.now)) tt result }
 {
     let table = field_table!(
@@ -230,13 +223,12 @@ impl Reader for BindingForm {
     ghost value_of = { binding_of };
 
     #[tactic(auto, unfolding(crate::specs::Workspace::binding, crate::specs::Workspace::binding_of))]
-    fn read(alloc: Global, value: &Json, location: Location) -> Result<Space, Rejected> {
-        let place = place_at(alloc, location)?;
-        check_binding(alloc, value, &place)?;
-        let name = required::<TextThat<DnsLabel>>(alloc, value, &place, "name")?;
-        let sub = read_sub_path(alloc, value, &place)?;
-        let claim = read_claim(alloc, value, &place)?;
-        check_folder_or_claim(alloc, value, &place)?;
+    fn read(alloc: Global, value: &Json, location: &Location<'_>) -> Result<Space, Rejected> {
+        check_binding(alloc, value, location)?;
+        let name = required::<TextThat<DnsLabel>>(alloc, value, location, "name")?;
+        let sub = read_sub_path(alloc, value, location)?;
+        let claim = read_claim(alloc, value, location)?;
+        check_folder_or_claim(alloc, value, location)?;
         Ok(Space { name, claim, sub })
     }
 }

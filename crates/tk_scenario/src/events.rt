@@ -1,7 +1,6 @@
 ghost use Rattle.std.specs.Prelude.{map};
 ghost use Rattle.serde_json.specs.View.{view};
 ghost use Rattle.tk_types.specs.Rejected.{Reads};
-ghost use Rattle.tk_fields.specs.Location.{place_of};
 ghost use Rattle.tk_scenario.specs.Scenario.{event as event_check, event_told, events_from, events_of, first_bad_event, written_events};
 
 use crate::actors::Counts;
@@ -9,7 +8,7 @@ use crate::event::{event, reading_after};
 use serde_json::Value;
 use std::alloc::Global;
 use tk_fields::{Location, elements_of, refusal};
-use tk_types::{Event, List, Place, Rejected};
+use tk_types::{Event, List, Rejected};
 
 /// The event that a text tells while the clock has a reading; another text is `BadChoice`.
 #[tactic(auto, unfolding(crate::specs::Scenario::event, crate::specs::Scenario::event_told))]
@@ -18,9 +17,9 @@ fn read_event(
     counts: Counts,
     reading: u64,
     value: &Value,
-    location: Location,
+    location: &Location<'_>,
 ) -> Result<Event, Rejected>
-    ensures { Reads (event_check counts reading (place_of location.entry) (view value.now)) (event_told counts reading (view value.now)) result }
+    ensures { Reads (event_check counts reading location.now (view value.now)) (event_told counts reading (view value.now)) result }
 {
     let Some(text) = value.as_str() else {
         return Err(refusal(alloc, 2, location));
@@ -36,7 +35,7 @@ fn read_texts(
     alloc: Global,
     counts: Counts,
     items: &[Value],
-    place: &Place,
+    place: &Location<'_>,
 ) -> Result<List<Event>, Rejected>
     ensures { Reads (first_bad_event counts place.now 0 0 (map view items.now)) (events_from counts 0 (map view items.now)) result }
 {
@@ -49,7 +48,7 @@ fn read_texts(
             counts,
             reading,
             item,
-            Location::Element(place, index),
+            &(&*place).at(index),
         )?;
         reading = reading_after(reading, &event);
         events.push(event)?;
@@ -63,7 +62,7 @@ pub(crate) fn read_events(
     alloc: Global,
     counts: Counts,
     spec: &Value,
-    place: &Place,
+    place: &Location<'_>,
 ) -> Result<List<Event>, Rejected>
     ensures { Reads (written_events counts place.now (view spec.now)) (events_of counts (view spec.now)) result }
 {
@@ -72,6 +71,6 @@ pub(crate) fn read_events(
     };
     match elements_of(value) {
         Some(items) => read_texts(alloc, counts, items, &place.key(alloc, "events")?),
-        None => Err(refusal(alloc, 2, Location::Member(place, "events"))),
+        None => Err(refusal(alloc, 2, &place.key("events"))),
     }
 }

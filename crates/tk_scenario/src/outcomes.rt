@@ -7,11 +7,8 @@ ghost use Rattle.tk_scenario.specs.Scenario.{first_bad_outcome, outcome, outcome
 use serde_json::Value;
 use std::alloc::Global;
 use std::collections::BTreeSet;
-use tk_fields::{
-    AnyText, Below8, Below32, Each, EachMember, Location, OrEmpty, Reader, TextEntry, check_object,
-    elements_of, field_table, or_empty, place_at, refusal, required,
-};
-use tk_types::{List, Place, Rejected, Scripted};
+use tk_fields::{AnyText, Below8, Below32, Each, EachMember, Location, OrEmpty, Reader, TextEntry, check_object, elements_of, field_table, or_empty, refusal, required};
+use tk_types::{List, Rejected, Scripted};
 
 /// The form of an outcome.
 struct OutcomeForm;
@@ -23,15 +20,14 @@ impl Reader for OutcomeForm {
 
     ghost value_of = { outcome_of };
 
-    fn read(alloc: Global, value: &Value, location: Location) -> Result<Scripted, Rejected> {
-        let place = place_at(alloc, location)?;
+    fn read(alloc: Global, value: &Value, location: &Location<'_>) -> Result<Scripted, Rejected> {
         let table = field_table!(Used "taskRun" "attempt" "exits" "results");
-        check_object(alloc, value, &table, &place)?;
+        check_object(alloc, value, &table, location)?;
         Ok(Scripted {
-            task_run: required::<AnyText>(alloc, value, &place, "taskRun")?,
-            attempt: required::<Below32>(alloc, value, &place, "attempt")?,
-            exits: or_empty::<Each<Below8>>(alloc, value, &place, "exits")?,
-            files: or_empty::<EachMember<TextEntry>>(alloc, value, &place, "results")?,
+            task_run: required::<AnyText>(alloc, value, location, "taskRun")?,
+            attempt: required::<Below32>(alloc, value, location, "attempt")?,
+            exits: or_empty::<Each<Below8>>(alloc, value, location, "exits")?,
+            files: or_empty::<EachMember<TextEntry>>(alloc, value, location, "results")?,
         })
     }
 }
@@ -58,16 +54,16 @@ fn number_at(object: &Value, key: &str) -> u64
 
 /// Outcomes in order, no two of one attempt; the later of two is `BadChoice`.
 #[tactic(auto, unfolding(crate::specs::Scenario::new_outcome))]
-fn read_items(alloc: Global, items: &[Value], place: &Place) -> Result<List<Scripted>, Rejected>
+fn read_items(alloc: Global, items: &[Value], place: &Location<'_>) -> Result<List<Scripted>, Rejected>
     ensures { Reads (first_bad_outcome place.now 0 [] (map view items.now)) (map outcome_of (map view items.now)) result }
 {
     let mut outcomes = List::new(alloc);
     let mut seen: BTreeSet<(&str, u64)> = BTreeSet::new(alloc);
     for item in items {
         let index = outcomes.len() as u64;
-        let outcome = OutcomeForm::read(alloc, item, Location::Element(place, index))?;
+        let outcome = OutcomeForm::read(alloc, item, &(&*place).at(index))?;
         if !seen.insert((text_at(item, "taskRun"), number_at(item, "attempt")))? {
-            return Err(refusal(alloc, 11, Location::Element(place, index)));
+            return Err(refusal(alloc, 11, &(&*place).at(index)));
         }
         outcomes.push(outcome)?;
     }
@@ -85,9 +81,9 @@ impl Reader for OutcomesForm {
     ghost value_of = { list_of outcome_of };
 
     #[tactic(auto, unfolding(crate::specs::Scenario::outcomes))]
-    fn read(alloc: Global, value: &Value, location: Location) -> Result<List<Scripted>, Rejected> {
+    fn read(alloc: Global, value: &Value, location: &Location<'_>) -> Result<List<Scripted>, Rejected> {
         match elements_of(value) {
-            Some(items) => read_items(alloc, items, &place_at(alloc, location)?),
+            Some(items) => read_items(alloc, items, location),
             None => Err(refusal(alloc, 2, location)),
         }
     }

@@ -10,7 +10,7 @@ use crate::outcomes::OutcomesForm;
 use serde_json::Value;
 use std::alloc::Global;
 use tk_fields::{Location, Reader, check_object, field_table, optional, or_empty, refusal};
-use tk_types::{List, Place, Rejected, Scenario, Scripted};
+use tk_types::{List, Rejected, Scenario, Scripted};
 
 /// The form of a number of controllers or of kubelets: 1 to 8.
 struct CountForm;
@@ -22,7 +22,7 @@ impl Reader for CountForm {
 
     ghost value_of = { number_of };
 
-    fn read(alloc: Global, value: &Value, location: Location) -> Result<u32, Rejected> {
+    fn read(alloc: Global, value: &Value, location: &Location<'_>) -> Result<u32, Rejected> {
         match value.as_u64() {
             Some(number) if 1 <= number && number <= 8 => Ok(number as u32),
             Some(_) => Err(refusal(alloc, 11, location)),
@@ -32,7 +32,7 @@ impl Reader for CountForm {
 }
 
 /// How many controllers or kubelets there are, 1 where it isn't written.
-fn read_count(alloc: Global, spec: &Value, place: &Place, key: &str) -> Result<u32, Rejected>
+fn read_count(alloc: Global, spec: &Value, place: &Location<'_>, key: &str) -> Result<u32, Rejected>
     ensures { Reads (field_finding place.now (view spec.now) (optional_field key.now actors)) (count_at key.now (view spec.now)) result }
 {
     Ok(optional::<CountForm>(alloc, spec, place, key)?.unwrap_or(1))
@@ -40,7 +40,7 @@ fn read_count(alloc: Global, spec: &Value, place: &Place, key: &str) -> Result<u
 
 /// How many controllers and kubelets there are.
 #[tactic(auto, unfolding(crate::specs::Scenario::counts))]
-fn read_counts(alloc: Global, spec: &Value, place: &Place) -> Result<Counts, Rejected>
+fn read_counts(alloc: Global, spec: &Value, place: &Location<'_>) -> Result<Counts, Rejected>
     ensures { Reads (counts place.now (view spec.now)) (counts_of (view spec.now)) result }
 {
     Ok(Counts {
@@ -51,7 +51,7 @@ fn read_counts(alloc: Global, spec: &Value, place: &Place) -> Result<Counts, Rej
 
 /// The outcomes of a scenario, none where they aren't written.
 #[tactic(auto, unfolding(crate::specs::Scenario::written_outcomes, crate::specs::Scenario::outcomes_of))]
-fn read_outcomes(alloc: Global, spec: &Value, place: &Place) -> Result<List<Scripted>, Rejected>
+fn read_outcomes(alloc: Global, spec: &Value, place: &Location<'_>) -> Result<List<Scripted>, Rejected>
     ensures { Reads (written_outcomes place.now (view spec.now)) (outcomes_of (view spec.now)) result }
 {
     or_empty::<OutcomesForm>(alloc, spec, place, "outcomes")
@@ -59,7 +59,7 @@ fn read_outcomes(alloc: Global, spec: &Value, place: &Place) -> Result<List<Scri
 
 /// Refuses a value that is no object, and then its first key that no scenario has.
 #[tactic(auto, unfolding(crate::specs::Scenario::keys))]
-fn check_keys(alloc: Global, spec: &Value, place: &Place) -> Result<(), Rejected>
+fn check_keys(alloc: Global, spec: &Value, place: &Location<'_>) -> Result<(), Rejected>
     ensures { Reads (keys place.now (view spec.now)) tt result }
 {
     let table = field_table!(Used "controllers" "kubelets" "outcomes" "events");
@@ -70,7 +70,7 @@ fn check_keys(alloc: Global, spec: &Value, place: &Place) -> Result<(), Rejected
 /// unknown field, or a choice that isn't one, which is a count outside 1 to 8, the later of two outcomes of one
 /// attempt, and a text that tells no event. The only other error is want of memory. Of n outcomes it takes time in n
 /// times its logarithm.
-pub fn read_scenario(alloc: Global, spec: &Value, place: &Place) -> Result<Scenario, Rejected>
+pub fn read_scenario(alloc: Global, spec: &Value, place: &Location<'_>) -> Result<Scenario, Rejected>
     ensures { Reads (scenario place.now (view spec.now)) (scenario_of (view spec.now)) result }
 {
     check_keys(alloc, spec, place)?;

@@ -4,7 +4,8 @@ use crate::scenario::read_scenario;
 use serde_json::Value;
 use std::alloc::{AllocError, Global};
 use std::test::Fail;
-use tk_types::{Event, Place, Rejected, Scenario, Text};
+use tk_fields::Location;
+use tk_types::{Event, Rejected, Scenario, Text};
 
 /// A JSON text with `'` for each quote.
 fn json(alloc: Global, text: &str) -> Result<Value, serde_json::Error> {
@@ -23,7 +24,7 @@ fn told(alloc: Global, outcome: Result<Scenario, Rejected>) -> Result<Text, Allo
 /// What is told of a spec.
 fn reading(alloc: Global, text: &str) -> Result<Text, serde_json::Error> {
     let spec = json(alloc, text)?;
-    let outcome = read_scenario(alloc, &spec, &Place::root(alloc));
+    let outcome = read_scenario(alloc, &spec, &Location::root());
     Ok(told(alloc, outcome)?)
 }
 
@@ -176,7 +177,7 @@ fn a_scenario_says_what_stands(rt: HostRuntime) -> Result<(), Fail> {
           'events': ['deliver kubelet 1 taskruns 12', 'deliver controller 0 all', 'relist controller 0 pods 3',
           'turn tasks 0', 'restart kubelet 0', 'ask r TaskRunCancelled', 'clock 9', 'round']}",
     )?;
-    let Ok(scenario) = read_scenario(alloc, &spec, &Place::root(alloc)) else {
+    let Ok(scenario) = read_scenario(alloc, &spec, &Location::root()) else {
         return Err(Fail::new("refused"));
     };
     assert_eq!(rt; scenario.controllers, 1);
