@@ -12,7 +12,10 @@ use crate::names::{NamePrefix, ObjectName};
 use crate::parameter::has_field;
 use serde_json::Value as Json;
 use std::alloc::{AllocError, Global};
-use tk_fields::{AnyText, Location, Reader, TextThat, check_object, field_table, object_at, optional, place_at, refusal, required};
+use tk_fields::{
+    AnyText, Location, Reader, TextThat, check_object, field_table, object_at, optional, place_at,
+    refusal, required,
+};
 use tk_names::generated;
 use tk_types::{Item, ItemObject, Rejected, Text};
 
@@ -93,7 +96,12 @@ pub fn read_heading(alloc: Global, value: &Json, place: &Location<'_>) -> Result
 
 /// Refuses another version than the one that is due.
 #[tactic(auto, unfolding(crate::specs::Item::has_version))]
-pub fn check_version(alloc: Global, due: &str, version: &str, place: &Location<'_>) -> Result<(), Rejected>
+pub fn check_version(
+    alloc: Global,
+    due: &str,
+    version: &str,
+    place: &Location<'_>,
+) -> Result<(), Rejected>
     ensures { Reads (has_version due.now version.now place.now) tt result }
 {
     if version == due {

@@ -7,7 +7,10 @@ ghost use Rattle.tk_manifest.specs.Outcomes.{child, child_back, child_front, chi
 use crate::parameter::{ValueForm, has_field};
 use serde_json::Value as Json;
 use std::alloc::Global;
-use tk_fields::{AnyText, Below8, Below32, Each, EachMember, Entry, Location, OneOf, OrEmpty, Reader, Words, check_object, elements_of, field_table, optional, or_empty, refusal, required};
+use tk_fields::{
+    AnyText, Below8, Below32, Each, EachMember, Entry, Location, OneOf, OrEmpty, Reader, Words,
+    check_object, elements_of, field_table, optional, or_empty, refusal, required,
+};
 use tk_types::{List, Outcome, OutcomesChild, OutcomesSpec, Param, Rejected, Stop, Text, Value};
 
 /// The stop of a name.
@@ -40,7 +43,12 @@ fn level_of(stop: Stop) -> u32
 
 /// A stop whose level is above another, else `BadChoice`.
 #[tactic(auto, unfolding(crate::specs::Outcomes::stop_above, crate::specs::Outcomes::stop_of))]
-fn read_stop(alloc: Global, value: &Json, level: u32, location: &Location<'_>) -> Result<Stop, Rejected>
+fn read_stop(
+    alloc: Global,
+    value: &Json,
+    level: u32,
+    location: &Location<'_>,
+) -> Result<Stop, Rejected>
     ensures { Reads (stop_above level location.now (view value.now)) (stop_of (view value.now)) result }
 {
     let Some(name) = value.as_str() else {
@@ -225,7 +233,11 @@ impl Reader for ChildForm {
     ghost value_of = { child_of };
 
     #[tactic(auto, unfolding(crate::specs::Outcomes::child, crate::specs::Outcomes::child_of))]
-    fn read(alloc: Global, value: &Json, location: &Location<'_>) -> Result<OutcomesChild, Rejected> {
+    fn read(
+        alloc: Global,
+        value: &Json,
+        location: &Location<'_>,
+    ) -> Result<OutcomesChild, Rejected> {
         check_child(alloc, value, location)?;
         let (task, index, word) = read_front(alloc, value, location)?;
         let (exit, results) = read_back(alloc, value, location)?;
@@ -249,7 +261,11 @@ fn check_outcomes(alloc: Global, value: &Json, place: &Location<'_>) -> Result<(
 
 /// The stops and the children of a run.
 #[tactic(auto, unfolding(crate::specs::Outcomes::outcomes_fields, crate::specs::Outcomes::outcomes_of))]
-fn read_outcomes(alloc: Global, value: &Json, place: &Location<'_>) -> Result<OutcomesSpec, Rejected>
+fn read_outcomes(
+    alloc: Global,
+    value: &Json,
+    place: &Location<'_>,
+) -> Result<OutcomesSpec, Rejected>
     ensures { Reads (outcomes_fields place.now (view value.now)) (outcomes_of (view value.now)) result }
 {
     Ok(OutcomesSpec {
@@ -269,7 +285,11 @@ impl Reader for OutcomesForm {
     ghost value_of = { outcomes_of };
 
     #[tactic(auto, unfolding(crate::specs::Outcomes::outcomes))]
-    fn read(alloc: Global, value: &Json, location: &Location<'_>) -> Result<OutcomesSpec, Rejected> {
+    fn read(
+        alloc: Global,
+        value: &Json,
+        location: &Location<'_>,
+    ) -> Result<OutcomesSpec, Rejected> {
         check_outcomes(alloc, value, location)?;
         Ok(read_outcomes(alloc, value, location)?)
     }

@@ -9,7 +9,10 @@ ghost use Rattle.tk_manifest.specs.Parameter.{dotted, is_object_type, key_alone,
 use crate::names::{ParamName, PipelineResultName, TaskResultName};
 use serde_json::Value as Json;
 use std::alloc::Global;
-use tk_fields::{AnyText, Each, EachMember, Entry, Location, OneOf, Reader, TextEntry, TextRule, TextThat, Words, check_object, field_table, optional, or_empty, refusal, required};
+use tk_fields::{
+    AnyText, Each, EachMember, Entry, Location, OneOf, Reader, TextEntry, TextRule, TextThat,
+    Words, check_object, field_table, optional, or_empty, refusal, required,
+};
 use tk_types::{List, Param, ParamSpec, ParamType, Rejected, ResultSpec, Text, Value};
 
 /// A value: a string, an array of strings or an object of strings.
@@ -186,7 +189,11 @@ pub fn has_field(value: &Json, key: &str) -> bool
 
 /// The declared keys of an object.
 #[tactic(auto, unfolding(crate::specs::Parameter::properties, crate::specs::Parameter::property_names))]
-fn read_properties(alloc: Global, value: &Json, place: &Location<'_>) -> Result<List<Text>, Rejected>
+fn read_properties(
+    alloc: Global,
+    value: &Json,
+    place: &Location<'_>,
+) -> Result<List<Text>, Rejected>
     ensures { Reads (properties place.now (view value.now)) (property_names (view value.now)) result }
 {
     or_empty::<EachMember<PropertyEntry>>(alloc, value, place, "properties")
@@ -222,7 +229,12 @@ fn has_dot(name: &str) -> bool
 
 /// Refuses an object parameter whose name has a dot.
 #[tactic(auto, unfolding(crate::specs::Parameter::dotted))]
-fn check_dots(alloc: Global, kind: ParamType, name: &str, place: &Location<'_>) -> Result<(), Rejected>
+fn check_dots(
+    alloc: Global,
+    kind: ParamType,
+    name: &str,
+    place: &Location<'_>,
+) -> Result<(), Rejected>
     ensures { Reads (dotted kind name.now place.now) tt result }
 {
     if is_object(kind) && has_dot(name) {

@@ -14,9 +14,14 @@ use crate::task::{read_on_error, read_task_source};
 use crate::workspace::{PipelineSpaceForm, SpaceUseForm};
 use serde_json::Value as Json;
 use std::alloc::Global;
-use tk_fields::{AnyText, Below32, Each, Location, OneOf, OrEmpty, Reader, SomeOf, TextThat, Words, check_object, field_table, just_one, optional, or_empty, refusal, required};
+use tk_fields::{
+    AnyText, Below32, Each, Location, OneOf, OrEmpty, Reader, SomeOf, TextThat, Words,
+    check_object, field_table, just_one, optional, or_empty, refusal, required,
+};
 use tk_time::read_duration;
-use tk_types::{List, Matrix, Param, PipelineSpec, PipelineTask, Rejected, SpaceUse, TaskSource, Text, When};
+use tk_types::{
+    List, Matrix, Param, PipelineSpec, PipelineTask, Rejected, SpaceUse, TaskSource, Text, When,
+};
 
 /// A duration, in milliseconds; a text that is none is `BadDuration`.
 pub struct DurationForm;
@@ -227,7 +232,11 @@ fn read_limits(alloc: Global, value: &Json, place: &Location<'_>) -> Result<(u32
 
 /// The workspaces that a pipeline task hands to its Task.
 #[tactic(auto, unfolding(crate::specs::Pipeline::task_spaces))]
-fn read_task_spaces(alloc: Global, value: &Json, place: &Location<'_>) -> Result<List<SpaceUse>, Rejected>
+fn read_task_spaces(
+    alloc: Global,
+    value: &Json,
+    place: &Location<'_>,
+) -> Result<List<SpaceUse>, Rejected>
     ensures { Reads (task_spaces place.now (view value.now)) (list_at space_use_of (codes "workspaces") (view value.now)) result }
 {
     or_empty::<Each<SpaceUseForm>>(alloc, value, place, "workspaces")
@@ -276,7 +285,11 @@ fn check_ignored(
 
 /// The name of a pipeline task, and its Task.
 #[tactic(auto, unfolding(crate::specs::Pipeline::task_front))]
-fn read_front(alloc: Global, value: &Json, place: &Location<'_>) -> Result<(Text, TaskSource), Rejected>
+fn read_front(
+    alloc: Global,
+    value: &Json,
+    place: &Location<'_>,
+) -> Result<(Text, TaskSource), Rejected>
     ensures { Reads (task_front place.now (view value.now)) (text_at (codes "name") (view value.now), task_source_of (view value.now)) result }
 {
     let name = required::<TextThat<DnsLabel>>(alloc, value, place, "name")?;
@@ -311,7 +324,11 @@ impl Reader for PipelineTaskForm {
     ghost value_of = { pipeline_task_of };
 
     #[tactic(auto, unfolding(crate::specs::Pipeline::pipeline_task, crate::specs::Pipeline::pipeline_task_of, crate::specs::Pipeline::task_inputs_of, crate::specs::Pipeline::task_options_of))]
-    fn read(alloc: Global, value: &Json, location: &Location<'_>) -> Result<PipelineTask, Rejected> {
+    fn read(
+        alloc: Global,
+        value: &Json,
+        location: &Location<'_>,
+    ) -> Result<PipelineTask, Rejected> {
         check_pipeline_task(alloc, value, location)?;
         let (name, source) = read_front(alloc, value, location)?;
         let inputs = read_inputs(alloc, value, location)?;
@@ -346,7 +363,11 @@ fn check_pipeline_spec(alloc: Global, value: &Json, place: &Location<'_>) -> Res
 
 /// The fields of a Pipeline's spec.
 #[tactic(auto, unfolding(crate::specs::Pipeline::pipeline_spec_fields, crate::specs::Pipeline::pipeline_spec_of))]
-fn read_pipeline_spec(alloc: Global, value: &Json, place: &Location<'_>) -> Result<PipelineSpec, Rejected>
+fn read_pipeline_spec(
+    alloc: Global,
+    value: &Json,
+    place: &Location<'_>,
+) -> Result<PipelineSpec, Rejected>
     ensures { Reads (pipeline_spec_fields place.now (view value.now)) (pipeline_spec_of (view value.now)) result }
 {
     Ok(PipelineSpec {
@@ -369,7 +390,11 @@ impl Reader for PipelineSpecForm {
     ghost value_of = { pipeline_spec_of };
 
     #[tactic(auto, unfolding(crate::specs::Pipeline::pipeline_spec))]
-    fn read(alloc: Global, value: &Json, location: &Location<'_>) -> Result<PipelineSpec, Rejected> {
+    fn read(
+        alloc: Global,
+        value: &Json,
+        location: &Location<'_>,
+    ) -> Result<PipelineSpec, Rejected> {
         check_pipeline_spec(alloc, value, location)?;
         Ok(read_pipeline_spec(alloc, value, location)?)
     }

@@ -12,8 +12,13 @@ use crate::task::read_task_source;
 use crate::workspace::BindingForm;
 use serde_json::Value as Json;
 use std::alloc::Global;
-use tk_fields::{AnyText, Below32, Each, Location, OneOf, OrEmpty, Reader, Words, check_object, field_table, just_one, optional, or_empty, required};
-use tk_types::{Asked, Given3, List, Param, PipelineSource, Rejected, RunObject, Space, TaskRunObject, Text};
+use tk_fields::{
+    AnyText, Below32, Each, Location, OneOf, OrEmpty, Reader, Words, check_object, field_table,
+    just_one, optional, or_empty, required,
+};
+use tk_types::{
+    Asked, Given3, List, Param, PipelineSource, Rejected, RunObject, Space, TaskRunObject, Text,
+};
 
 /// How long a TaskRun may take where it doesn't say so, in milliseconds.
 const ONE_HOUR: u64 = 3_600_000;
@@ -187,7 +192,11 @@ fn read_bindings(alloc: Global, value: &Json, place: &Location<'_>) -> Result<Li
 
 /// The parameters that are given.
 #[tactic(auto, unfolding(crate::specs::Run::given_params))]
-fn read_given_params(alloc: Global, value: &Json, place: &Location<'_>) -> Result<List<Param>, Rejected>
+fn read_given_params(
+    alloc: Global,
+    value: &Json,
+    place: &Location<'_>,
+) -> Result<List<Param>, Rejected>
     ensures { Reads (given_params place.now (view value.now)) (params_at (codes "params") (view value.now)) result }
 {
     or_empty::<Each<ParamForm>>(alloc, value, place, "params")
@@ -216,7 +225,11 @@ struct RunOptions {
 
 /// The last fields of a PipelineRun.
 #[tactic(auto, unfolding(crate::specs::Run::run_options, crate::specs::Run::run_options_of))]
-fn read_run_options(alloc: Global, value: &Json, place: &Location<'_>) -> Result<RunOptions, Rejected>
+fn read_run_options(
+    alloc: Global,
+    value: &Json,
+    place: &Location<'_>,
+) -> Result<RunOptions, Rejected>
     ensures { Reads (run_options place.now (view value.now)) (run_options_of (view value.now)) result }
 {
     let asked = read_run_status(alloc, value, place)?;

@@ -10,7 +10,10 @@ use crate::parameter::{ParamSpecForm, TaskResultForm, has_field};
 use crate::workspace::TaskSpaceForm;
 use serde_json::Value as Json;
 use std::alloc::Global;
-use tk_fields::{AnyText, Each, Location, OneOf, OrEmpty, Reader, SomeOf, TextRule, TextThat, Words, check_object, field_table, optional, or_empty, refusal, required};
+use tk_fields::{
+    AnyText, Each, Location, OneOf, OrEmpty, Reader, SomeOf, TextRule, TextThat, Words,
+    check_object, field_table, optional, or_empty, refusal, required,
+};
 use tk_types::{List, Pair, Rejected, Step, TaskSource, TaskSpec, Text};
 
 /// Refuses what is no object with the keys of a step's variable.
@@ -298,7 +301,11 @@ impl OrEmpty for TaskRefForm {
 
 /// The Task that a pipeline task or a TaskRun runs: `taskSpec`, or the name of `taskRef`.
 #[tactic(auto, unfolding(crate::specs::Task::task_source, crate::specs::Task::task_source_of))]
-pub fn read_task_source(alloc: Global, value: &Json, place: &Location<'_>) -> Result<TaskSource, Rejected>
+pub fn read_task_source(
+    alloc: Global,
+    value: &Json,
+    place: &Location<'_>,
+) -> Result<TaskSource, Rejected>
     ensures { Reads (task_source place.now (view value.now)) (task_source_of (view value.now)) result }
 {
     let name = or_empty::<TaskRefForm>(alloc, value, place, "taskRef")?;

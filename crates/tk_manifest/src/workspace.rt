@@ -8,7 +8,10 @@ ghost use Rattle.tk_manifest.specs.Workspace.{binding, binding_keys, binding_of,
 use crate::names::{DnsLabel, ObjectName, SubPath};
 use serde_json::Value as Json;
 use std::alloc::Global;
-use tk_fields::{AnyText, Location, Reader, TextThat, Truth, check_object, field_table, optional, or_empty, refusal, required};
+use tk_fields::{
+    AnyText, Location, Reader, TextThat, Truth, check_object, field_table, optional, or_empty,
+    refusal, required,
+};
 use tk_types::{Rejected, Space, SpaceSpec, SpaceUse, Text, TryCopy};
 
 /// The name of a declared workspace, and whether it may be left unbound.
@@ -90,7 +93,11 @@ fn read_sub_path(alloc: Global, value: &Json, place: &Location<'_>) -> Result<Te
 
 /// The name of a Task's workspace, and of the pipeline's that is handed to it.
 #[tactic(auto, unfolding(crate::specs::Workspace::space_use_names))]
-fn read_space_names(alloc: Global, value: &Json, place: &Location<'_>) -> Result<(Text, Text), Rejected>
+fn read_space_names(
+    alloc: Global,
+    value: &Json,
+    place: &Location<'_>,
+) -> Result<(Text, Text), Rejected>
     ensures { Reads (space_use_names place.now (view value.now)) (text_at (codes "name") (view value.now), handed_on (view value.now)) result }
 {
     let name = required::<TextThat<DnsLabel>>(alloc, value, place, "name")?;
@@ -193,9 +200,7 @@ fn check_folder_or_claim(alloc: Global, value: &Json, place: &Location<'_>) -> R
 {
     match (value.get("emptyDir"), value.get("persistentVolumeClaim")) {
         (None, None) => Err(refusal(alloc, 5, &place.key("emptyDir"))),
-        (Some(_), Some(_)) => {
-            Err(refusal(alloc, 11, &place.key("persistentVolumeClaim")))
-        }
+        (Some(_), Some(_)) => { Err(refusal(alloc, 11, &place.key("persistentVolumeClaim"))) }
         _ => Ok(()),
     }
 }

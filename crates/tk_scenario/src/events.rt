@@ -43,13 +43,7 @@ fn read_texts(
     let mut reading = 0;
     for item in items {
         let index = events.len() as u64;
-        let event = read_event(
-            alloc,
-            counts,
-            reading,
-            item,
-            &(&*place).at(index),
-        )?;
+        let event = read_event(alloc, counts, reading, item, &(&*place).at(index))?;
         reading = reading_after(reading, &event);
         events.push(event)?;
     }
@@ -70,7 +64,7 @@ pub(crate) fn read_events(
         return Ok(List::new(alloc));
     };
     match elements_of(value) {
-        Some(items) => read_texts(alloc, counts, items, &place.key(alloc, "events")?),
+        Some(items) => read_texts(alloc, counts, items, &place.key("events")),
         None => Err(refusal(alloc, 2, &place.key("events"))),
     }
 }

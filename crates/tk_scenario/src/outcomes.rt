@@ -7,7 +7,10 @@ ghost use Rattle.tk_scenario.specs.Scenario.{first_bad_outcome, outcome, outcome
 use serde_json::Value;
 use std::alloc::Global;
 use std::collections::BTreeSet;
-use tk_fields::{AnyText, Below8, Below32, Each, EachMember, Location, OrEmpty, Reader, TextEntry, check_object, elements_of, field_table, or_empty, refusal, required};
+use tk_fields::{
+    AnyText, Below8, Below32, Each, EachMember, Location, OrEmpty, Reader, TextEntry, check_object,
+    elements_of, field_table, or_empty, refusal, required,
+};
 use tk_types::{List, Rejected, Scripted};
 
 /// The form of an outcome.
@@ -54,7 +57,11 @@ fn number_at(object: &Value, key: &str) -> u64
 
 /// Outcomes in order, no two of one attempt; the later of two is `BadChoice`.
 #[tactic(auto, unfolding(crate::specs::Scenario::new_outcome))]
-fn read_items(alloc: Global, items: &[Value], place: &Location<'_>) -> Result<List<Scripted>, Rejected>
+fn read_items(
+    alloc: Global,
+    items: &[Value],
+    place: &Location<'_>,
+) -> Result<List<Scripted>, Rejected>
     ensures { Reads (first_bad_outcome place.now 0 [] (map view items.now)) (map outcome_of (map view items.now)) result }
 {
     let mut outcomes = List::new(alloc);
@@ -81,7 +88,11 @@ impl Reader for OutcomesForm {
     ghost value_of = { list_of outcome_of };
 
     #[tactic(auto, unfolding(crate::specs::Scenario::outcomes))]
-    fn read(alloc: Global, value: &Value, location: &Location<'_>) -> Result<List<Scripted>, Rejected> {
+    fn read(
+        alloc: Global,
+        value: &Value,
+        location: &Location<'_>,
+    ) -> Result<List<Scripted>, Rejected> {
         match elements_of(value) {
             Some(items) => read_items(alloc, items, location),
             None => Err(refusal(alloc, 2, location)),

@@ -51,7 +51,11 @@ fn read_counts(alloc: Global, spec: &Value, place: &Location<'_>) -> Result<Coun
 
 /// The outcomes of a scenario, none where they aren't written.
 #[tactic(auto, unfolding(crate::specs::Scenario::written_outcomes, crate::specs::Scenario::outcomes_of))]
-fn read_outcomes(alloc: Global, spec: &Value, place: &Location<'_>) -> Result<List<Scripted>, Rejected>
+fn read_outcomes(
+    alloc: Global,
+    spec: &Value,
+    place: &Location<'_>,
+) -> Result<List<Scripted>, Rejected>
     ensures { Reads (written_outcomes place.now (view spec.now)) (outcomes_of (view spec.now)) result }
 {
     or_empty::<OutcomesForm>(alloc, spec, place, "outcomes")
@@ -70,7 +74,11 @@ fn check_keys(alloc: Global, spec: &Value, place: &Location<'_>) -> Result<(), R
 /// unknown field, or a choice that isn't one, which is a count outside 1 to 8, the later of two outcomes of one
 /// attempt, and a text that tells no event. The only other error is want of memory. Of n outcomes it takes time in n
 /// times its logarithm.
-pub fn read_scenario(alloc: Global, spec: &Value, place: &Location<'_>) -> Result<Scenario, Rejected>
+pub fn read_scenario(
+    alloc: Global,
+    spec: &Value,
+    place: &Location<'_>,
+) -> Result<Scenario, Rejected>
     ensures { Reads (scenario place.now (view spec.now)) (scenario_of (view spec.now)) result }
 {
     check_keys(alloc, spec, place)?;

@@ -1,0 +1,10 @@
+pub mod Due
+pub mod Lookup
+pub mod Misuse
+pub mod Reasons
+pub mod Run
+pub mod Settled
+pub mod Spaces
+pub mod TaskRun
+pub mod Timeouts
+pub mod Values

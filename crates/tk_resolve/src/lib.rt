@@ -1,0 +1,12 @@
+//! Runs with all that they refer to, or why they can't start: Tasks and Pipelines are looked up once among the earlier
+//! objects, parameters take their values, bodies get what they see from outside and their workspaces, and timeouts
+//! become those that hold. A run that can't start has the first reason that holds, and no tasks.
+#![tactic(auto)]
+
+mod due;
+mod lookup;
+mod reason;
+mod spec;
+mod task_run_spec;
+mod timeouts;
+mod uses;

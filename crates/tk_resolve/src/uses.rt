@@ -1,0 +1,98 @@
+ghost use Rattle.std.specs.Prelude.{◌≡◌, All, IfOk};
+ghost use Rattle.std.specs.List.{list_any};
+ghost use Rattle.tk_vars.specs.Reading.{HasReading, pieces_of};
+ghost use Rattle.tk_resolve.specs.Due.{seen};
+ghost use Rattle.tk_resolve.specs.Misuse.{any_use, passes};
+
+use crate::due::Due;
+use std::alloc::{AllocError, Global};
+use tk_types::Text;
+use tk_vars::{Piece, Pieces, Reference, ScanError, scan};
+
+/// A question about a reference where something is due.
+pub(crate) trait Question {
+    ghost use Rattle.std.specs.Prelude.{Bool};
+    ghost use Rattle.tk_vars.specs.declared.reference.Reference.{Reference};
+    ghost use Rattle.tk_resolve.specs.declared.due.Due.{Due};
+
+    ghost asks: { Self → Due → Reference → Bool };
+
+    /// The answer. The only error is want of memory.
+    fn holds(&self, alloc: Global, due: Due, reference: &Reference) -> Result<bool, AllocError>
+        ensures { IfOk result (λ holds. holds ≡ asks self.now due reference.now) };
+}
+
+/// The pieces of a text that has a reading.
+fn pieces_of(alloc: Global, text: &str) -> Result<Pieces, AllocError>
+    requires { HasReading text.now }
+    ensures { IfOk result (λ pieces. pieces ≡ pieces_of text.now) }
+{
+    match scan(alloc, text) {
+        Ok(pieces) => Ok(pieces),
+        Err(ScanError::BadReference { .. }) => unreachable!(),
+        Err(ScanError::Memory) => Err(AllocError),
+    }
+}
+
+/// The answer for a piece, which is no for a plain one.
+fn piece_holds<Q: Question>(
+    alloc: Global,
+    question: &Q,
+    due: Due,
+    piece: &Piece,
+) -> Result<bool, AllocError>
+    ensures { IfOk result (λ holds. holds ≡ passes (Q.asks question.now due) piece.now) }
+{
+    match piece {
+        Piece::Plain(_) => Ok(false),
+        Piece::Ref(reference) => question.holds(alloc, due, reference),
+    }
+}
+
+/// Whether the answer is yes for some piece.
+fn any_piece<Q: Question>(
+    alloc: Global,
+    question: &Q,
+    due: Due,
+    pieces: &[Piece],
+) -> Result<bool, AllocError>
+    ensures { IfOk result (λ any. any ≡ list_any (passes (Q.asks question.now due)) pieces.now) }
+{
+    for piece in pieces {
+        if piece_holds(alloc, question, due, piece)? {
+            return Ok(true);
+        }
+    }
+    Ok(false)
+}
+
+/// Whether the answer is yes for some reference of a text.
+fn any_in_text<Q: Question>(
+    alloc: Global,
+    question: &Q,
+    due: Due,
+    text: &str,
+) -> Result<bool, AllocError>
+    requires { HasReading text.now }
+    ensures { IfOk result (λ any. any ≡ list_any (passes (Q.asks question.now due)) (pieces_of text.now)) }
+{
+    let pieces = pieces_of(alloc, text)?;
+    any_piece(alloc, question, due, pieces.as_slice())
+}
+
+/// Whether the answer is yes for some reference of these texts. The only error is want of memory.
+pub(crate) fn any_use<Q: Question>(
+    alloc: Global,
+    question: &Q,
+    texts: &[(Due, &Text)],
+) -> Result<bool, AllocError>
+    requires { All (λ t. HasReading t.1.now) texts.now }
+    ensures { IfOk result (λ any. any ≡ any_use (Q.asks question.now) (seen texts.now)) }
+{
+    for standing in texts {
+        if any_in_text(alloc, question, standing.0, standing.1.as_str())? {
+            return Ok(true);
+        }
+    }
+    Ok(false)
+}

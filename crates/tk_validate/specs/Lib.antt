@@ -1,0 +1,14 @@
+pub mod Conflicts
+pub mod Cycle
+pub mod Finally
+pub mod Named
+pub mod Names
+pub mod Parts
+pub mod Seen
+pub mod Sited
+pub mod Sizes
+pub mod Texts
+pub mod Timeouts
+pub mod Types
+pub mod Validate
+pub mod Workspaces

@@ -1,0 +1,21 @@
+//! The rules on one object of an input: what is wrong with it first, by rules in a fixed order, each at its places in
+//! reading order. The rules and their order stand in `specs/Validate.antt`, each rule in a file of its own.
+//!
+//! The rules on sizes, on the types of values, on workspaces and on a run's timeouts have bodies, each exact by its
+//! rule.
+#![tactic(auto)]
+
+mod name_set;
+mod rule;
+mod seen;
+mod sizes;
+mod timeouts;
+mod types;
+mod workspaces;
+
+pub use rule::{Rule, check_all, check_each, check_there, told};
+pub use seen::Seen;
+pub use sizes::check_sizes;
+pub use timeouts::check_timeouts;
+pub use types::check_types;
+pub use workspaces::check_workspaces;
