@@ -6,8 +6,10 @@
 #![tactic(auto)]
 
 mod name_set;
+mod named;
 mod rule;
 mod seen;
+mod sited;
 mod sizes;
 mod timeouts;
 mod types;
