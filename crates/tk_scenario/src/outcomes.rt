@@ -1,6 +1,8 @@
-ghost use Rattle.std.specs.Prelude.{◌≡◌, [], map};
+ghost use Rattle.std.specs.Prelude.{◌≡◌, [], Some, map};
 ghost use Rattle.serde_json.specs.View.{view};
-ghost use Rattle.tk_types.specs.Rejected.{Reads};
+ghost use Rattle.tk_types.specs.Fault.{bad_choice};
+ghost use Rattle.tk_types.specs.Place.{◌#◌};
+ghost use Rattle.tk_types.specs.Rejected.{IsRefusal, Reads};
 ghost use Rattle.tk_fields.specs.Get.{number_at as number_of_field, text_at as text_of_field, list_of};
 ghost use Rattle.tk_scenario.specs.Scenario.{first_bad_outcome, outcome, outcome_of, outcomes};
 
@@ -55,6 +57,25 @@ fn number_at(object: &Value, key: &str) -> u64
     }
 }
 
+/// The outcome at an index of a list.
+fn read_element(
+    alloc: Global,
+    item: &Value,
+    place: &Location<'_>,
+    index: u64,
+) -> Result<Scripted, Rejected>
+    ensures { Reads (outcome (place.now # index) (view item.now)) (outcome_of (view item.now)) result }
+{
+    OutcomeForm::read(alloc, item, &place.at(index))
+}
+
+/// What is wrong with an outcome at an index of a list whose attempt stands before.
+fn stands_before(alloc: Global, place: &Location<'_>, index: u64) -> Rejected
+    ensures { IsRefusal (Some (bad_choice (place.now # index))) result }
+{
+    refusal(alloc, 11, &place.at(index))
+}
+
 /// Outcomes in order, no two of one attempt; the later of two is `BadChoice`.
 #[tactic(auto, unfolding(crate::specs::Scenario::new_outcome))]
 fn read_items(
@@ -68,9 +89,9 @@ fn read_items(
     let mut seen: BTreeSet<(&str, u64)> = BTreeSet::new(alloc);
     for item in items {
         let index = outcomes.len() as u64;
-        let outcome = OutcomeForm::read(alloc, item, &(&*place).at(index))?;
+        let outcome = read_element(alloc, item, place, index)?;
         if !seen.insert((text_at(item, "taskRun"), number_at(item, "attempt")))? {
-            return Err(refusal(alloc, 11, &(&*place).at(index)));
+            return Err(stands_before(alloc, place, index));
         }
         outcomes.push(outcome)?;
     }

@@ -55,8 +55,8 @@ fn check_pairs<R: TextRule>(
     ensures { Reads (first_of (map (in_pair (R.finding rule.now) place.now) pairs.now)) tt result }
 {
     for pair in pairs {
-        let location = &place.key(pair.key.as_str());
-        rule.check(alloc, true, pair.value.as_str(), place)?;
+        let member = (&*place).key(pair.key.as_str());
+        rule.check(alloc, true, pair.value.as_str(), &member)?;
     }
     Ok(())
 }

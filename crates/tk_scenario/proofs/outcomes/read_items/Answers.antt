@@ -22,7 +22,7 @@ returns-then-not-branch c =
     = stood _ _ _ c.in_ok-insert.ensures.added (among-same c.loop-item.seen (c.text_at.result, c.number_at.result) before d c.text_at.ensures c.number_at.ensures c.loop-item.invariant.among) c.if-not-branch.true in
     let found : first_bad_outcome c.args.place.now 0 [] (map view items) ≡ Some (bad_choice (c.args.place.now # i))
     = sym c.loop-item.invariant.left ∙ rw (left-step c.args.place.now items i c.item-item.result c.loop-item-test.true c.item-item.is, new_outcome-found before (c.args.place.now # i) d right old) refl in
-    let told : IsRefusal (Some (bad_choice (c.args.place.now # i))) c.refusal.result = rw at at c.refusal.ensures in
+    let told : IsRefusal (Some (bad_choice (c.args.place.now # i))) c.stands_before.result = rw at at c.stands_before.ensures in
     rw found told
 
 pub loop-item-preserved : goal.loop-item-preserved
