@@ -145,14 +145,14 @@ impl Reader for MetadataForm {
     ghost value_of = { naming_of };
 
     #[tactic(auto, unfolding(crate::specs::Item::metadata, crate::specs::Item::metadata_fields, crate::specs::Item::is_named, crate::specs::Item::naming_of))]
-    fn read(alloc: Global, value: &Json, location: &Location<'_>) -> Result<Naming, Rejected> {
-        check_shape(alloc, value, location)?;
-        let name = optional::<TextThat<ObjectName>>(alloc, value, location, "name")?;
-        let prefix = optional::<TextThat<NamePrefix>>(alloc, value, location, "generateName")?;
+    fn read(alloc: Global, value: &Json, place: &Location<'_>) -> Result<Naming, Rejected> {
+        check_shape(alloc, value, place)?;
+        let name = optional::<TextThat<ObjectName>>(alloc, value, place, "name")?;
+        let prefix = optional::<TextThat<NamePrefix>>(alloc, value, place, "generateName")?;
         match (name, prefix) {
             (Some(name), _) => Ok(Naming::Name(name)),
             (None, Some(prefix)) => Ok(Naming::Prefix(prefix)),
-            (None, None) => Err(refusal(alloc, 5, &location.key("name"))),
+            (None, None) => Err(refusal(alloc, 5, &place.key("name"))),
         }
     }
 }

@@ -47,16 +47,16 @@ fn read_stop(
     alloc: Global,
     value: &Json,
     level: u32,
-    location: &Location<'_>,
+    place: &Location<'_>,
 ) -> Result<Stop, Rejected>
-    ensures { Reads (stop_above level location.now (view value.now)) (stop_of (view value.now)) result }
+    ensures { Reads (stop_above level place.now (view value.now)) (stop_of (view value.now)) result }
 {
     let Some(name) = value.as_str() else {
-        return Err(refusal(alloc, 2, location));
+        return Err(refusal(alloc, 2, place));
     };
     match stop_named(name) {
         Some(stop) if level < level_of(stop) => Ok(stop),
-        _ => Err(refusal(alloc, 11, location)),
+        _ => Err(refusal(alloc, 11, place)),
     }
 }
 
@@ -86,10 +86,10 @@ impl Reader for StopsForm {
     ghost value_of = { list_of stop_of };
 
     #[tactic(auto, unfolding(crate::specs::Outcomes::rising_stops))]
-    fn read(alloc: Global, value: &Json, location: &Location<'_>) -> Result<List<Stop>, Rejected> {
+    fn read(alloc: Global, value: &Json, place: &Location<'_>) -> Result<List<Stop>, Rejected> {
         match elements_of(value) {
-            Some(items) => read_stops(alloc, items, location),
-            None => Err(refusal(alloc, 2, location)),
+            Some(items) => read_stops(alloc, items, place),
+            None => Err(refusal(alloc, 2, place)),
         }
     }
 }
@@ -233,16 +233,12 @@ impl Reader for ChildForm {
     ghost value_of = { child_of };
 
     #[tactic(auto, unfolding(crate::specs::Outcomes::child, crate::specs::Outcomes::child_of))]
-    fn read(
-        alloc: Global,
-        value: &Json,
-        location: &Location<'_>,
-    ) -> Result<OutcomesChild, Rejected> {
-        check_child(alloc, value, location)?;
-        let (task, index, word) = read_front(alloc, value, location)?;
-        let (exit, results) = read_back(alloc, value, location)?;
+    fn read(alloc: Global, value: &Json, place: &Location<'_>) -> Result<OutcomesChild, Rejected> {
+        check_child(alloc, value, place)?;
+        let (task, index, word) = read_front(alloc, value, place)?;
+        let (exit, results) = read_back(alloc, value, place)?;
         let has_exit = has_field(value, "exit");
-        check_misplaced(alloc, word, has_exit, has_field(value, "results"), location)?;
+        check_misplaced(alloc, word, has_exit, has_field(value, "results"), place)?;
         Ok(OutcomesChild {
             task,
             index,
@@ -285,12 +281,8 @@ impl Reader for OutcomesForm {
     ghost value_of = { outcomes_of };
 
     #[tactic(auto, unfolding(crate::specs::Outcomes::outcomes))]
-    fn read(
-        alloc: Global,
-        value: &Json,
-        location: &Location<'_>,
-    ) -> Result<OutcomesSpec, Rejected> {
-        check_outcomes(alloc, value, location)?;
-        Ok(read_outcomes(alloc, value, location)?)
+    fn read(alloc: Global, value: &Json, place: &Location<'_>) -> Result<OutcomesSpec, Rejected> {
+        check_outcomes(alloc, value, place)?;
+        Ok(read_outcomes(alloc, value, place)?)
     }
 }

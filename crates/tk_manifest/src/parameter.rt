@@ -26,14 +26,12 @@ impl Reader for ValueForm {
     ghost value_of = { value_of_data };
 
     #[tactic(auto, unfolding(crate::specs::Parameter::value, crate::specs::Parameter::value_of))]
-    fn read(alloc: Global, value: &Json, location: &Location<'_>) -> Result<Value, Rejected> {
+    fn read(alloc: Global, value: &Json, place: &Location<'_>) -> Result<Value, Rejected> {
         match value {
-            Json::String(_) => Ok(Value::Str(AnyText::read(alloc, value, location)?)),
-            Json::Array(_) => Ok(Value::Arr(Each::<AnyText>::read(alloc, value, location)?)),
-            Json::Object(_) => Ok(Value::Obj(EachMember::<TextEntry>::read(
-                alloc, value, location,
-            )?)),
-            _ => Err(refusal(alloc, 2, location)),
+            Json::String(_) => Ok(Value::Str(AnyText::read(alloc, value, place)?)),
+            Json::Array(_) => Ok(Value::Arr(Each::<AnyText>::read(alloc, value, place)?)),
+            Json::Object(_) => Ok(Value::Obj(EachMember::<TextEntry>::read(alloc, value, place)?)),
+            _ => Err(refusal(alloc, 2, place)),
         }
     }
 }
@@ -64,9 +62,9 @@ impl Reader for ParamForm {
     ghost value_of = { param_of };
 
     #[tactic(auto, unfolding(crate::specs::Parameter::param_keys))]
-    fn read(alloc: Global, value: &Json, location: &Location<'_>) -> Result<Param, Rejected> {
-        check_object(alloc, value, &field_table!(Used "name" "value"), location)?;
-        read_named_value::<ParamName>(alloc, value, location)
+    fn read(alloc: Global, value: &Json, place: &Location<'_>) -> Result<Param, Rejected> {
+        check_object(alloc, value, &field_table!(Used "name" "value"), place)?;
+        read_named_value::<ParamName>(alloc, value, place)
     }
 }
 
@@ -89,9 +87,9 @@ impl Reader for PipelineResultForm {
 
     ghost value_of = { param_of };
 
-    fn read(alloc: Global, value: &Json, location: &Location<'_>) -> Result<Param, Rejected> {
-        check_pipeline_result(alloc, value, location)?;
-        read_named_value::<PipelineResultName>(alloc, value, location)
+    fn read(alloc: Global, value: &Json, place: &Location<'_>) -> Result<Param, Rejected> {
+        check_pipeline_result(alloc, value, place)?;
+        read_named_value::<PipelineResultName>(alloc, value, place)
     }
 }
 
@@ -129,11 +127,11 @@ impl Reader for PropertyForm {
     fn read(
         alloc: Global,
         value: &Json,
-        location: &Location<'_>,
+        place: &Location<'_>,
     ) -> Result<Option<ParamType>, Rejected> {
         let table = field_table!(Used "type", Ignored "description");
-        check_object(alloc, value, &table, location)?;
-        optional::<OneOf<TypeWords>>(alloc, value, location, "type")
+        check_object(alloc, value, &table, place)?;
+        optional::<OneOf<TypeWords>>(alloc, value, place, "type")
     }
 }
 
@@ -267,13 +265,13 @@ impl Reader for ParamSpecForm {
     ghost value_of = { param_spec_of };
 
     #[tactic(auto, unfolding(crate::specs::Parameter::param_spec, crate::specs::Parameter::param_spec_of))]
-    fn read(alloc: Global, value: &Json, location: &Location<'_>) -> Result<ParamSpec, Rejected> {
-        check_param_spec(alloc, value, location)?;
-        let (name, written) = read_typed_name::<ParamName>(alloc, value, location)?;
-        let default_value = optional::<ValueForm>(alloc, value, location, "default")?;
-        let properties = read_properties(alloc, value, location)?;
+    fn read(alloc: Global, value: &Json, place: &Location<'_>) -> Result<ParamSpec, Rejected> {
+        check_param_spec(alloc, value, place)?;
+        let (name, written) = read_typed_name::<ParamName>(alloc, value, place)?;
+        let default_value = optional::<ValueForm>(alloc, value, place, "default")?;
+        let properties = read_properties(alloc, value, place)?;
         let kind = type_by(written, has_field(value, "properties"), &default_value);
-        check_dots(alloc, kind, name.as_str(), location)?;
+        check_dots(alloc, kind, name.as_str(), place)?;
         Ok(ParamSpec {
             name,
             kind,
@@ -307,10 +305,10 @@ impl Reader for TaskResultForm {
     ghost value_of = { task_result_of };
 
     #[tactic(auto, unfolding(crate::specs::Parameter::task_result, crate::specs::Parameter::task_result_of))]
-    fn read(alloc: Global, value: &Json, location: &Location<'_>) -> Result<ResultSpec, Rejected> {
-        check_task_result(alloc, value, location)?;
-        let (name, written) = read_typed_name::<TaskResultName>(alloc, value, location)?;
-        let _keys = read_properties(alloc, value, location)?;
+    fn read(alloc: Global, value: &Json, place: &Location<'_>) -> Result<ResultSpec, Rejected> {
+        check_task_result(alloc, value, place)?;
+        let (name, written) = read_typed_name::<TaskResultName>(alloc, value, place)?;
+        let _keys = read_properties(alloc, value, place)?;
         let kind = type_by(written, has_field(value, "properties"), &None);
         Ok(ResultSpec { name, kind })
     }

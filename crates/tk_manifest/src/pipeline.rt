@@ -34,13 +34,13 @@ impl Reader for DurationForm {
     ghost value_of = { millis_of };
 
     #[tactic(auto, unfolding(crate::specs::Pipeline::duration, crate::specs::Pipeline::millis_of))]
-    fn read(alloc: Global, value: &Json, location: &Location<'_>) -> Result<u64, Rejected> {
+    fn read(alloc: Global, value: &Json, place: &Location<'_>) -> Result<u64, Rejected> {
         let Some(text) = value.as_str() else {
-            return Err(refusal(alloc, 2, location));
+            return Err(refusal(alloc, 2, place));
         };
         match read_duration(text) {
             Some(millis) => Ok(millis),
-            None => Err(refusal(alloc, 10, location)),
+            None => Err(refusal(alloc, 10, place)),
         }
     }
 }
@@ -103,9 +103,9 @@ impl Reader for WhenForm {
     ghost value_of = { when_of };
 
     #[tactic(auto, unfolding(crate::specs::Pipeline::when))]
-    fn read(alloc: Global, value: &Json, location: &Location<'_>) -> Result<When, Rejected> {
-        check_when(alloc, value, location)?;
-        Ok(read_when(alloc, value, location)?)
+    fn read(alloc: Global, value: &Json, place: &Location<'_>) -> Result<When, Rejected> {
+        check_when(alloc, value, place)?;
+        Ok(read_when(alloc, value, place)?)
     }
 }
 
@@ -129,9 +129,9 @@ impl Reader for IncludeForm {
     ghost value_of = { include_of };
 
     #[tactic(auto, unfolding(crate::specs::Pipeline::include_entry, crate::specs::Pipeline::include_params))]
-    fn read(alloc: Global, value: &Json, location: &Location<'_>) -> Result<List<Param>, Rejected> {
-        check_include(alloc, value, location)?;
-        Ok(required::<Each<ParamForm>>(alloc, value, location, "params")?)
+    fn read(alloc: Global, value: &Json, place: &Location<'_>) -> Result<List<Param>, Rejected> {
+        check_include(alloc, value, place)?;
+        Ok(required::<Each<ParamForm>>(alloc, value, place, "params")?)
     }
 }
 
@@ -176,10 +176,10 @@ impl Reader for MatrixForm {
     ghost value_of = { matrix_of };
 
     #[tactic(auto, unfolding(crate::specs::Pipeline::matrix))]
-    fn read(alloc: Global, value: &Json, location: &Location<'_>) -> Result<Matrix, Rejected> {
-        check_matrix(alloc, value, location)?;
-        let matrix = read_matrix(alloc, value, location)?;
-        check_combinations(alloc, &matrix, location)?;
+    fn read(alloc: Global, value: &Json, place: &Location<'_>) -> Result<Matrix, Rejected> {
+        check_matrix(alloc, value, place)?;
+        let matrix = read_matrix(alloc, value, place)?;
+        check_combinations(alloc, &matrix, place)?;
         Ok(matrix)
     }
 }
@@ -324,16 +324,12 @@ impl Reader for PipelineTaskForm {
     ghost value_of = { pipeline_task_of };
 
     #[tactic(auto, unfolding(crate::specs::Pipeline::pipeline_task, crate::specs::Pipeline::pipeline_task_of, crate::specs::Pipeline::task_inputs_of, crate::specs::Pipeline::task_options_of))]
-    fn read(
-        alloc: Global,
-        value: &Json,
-        location: &Location<'_>,
-    ) -> Result<PipelineTask, Rejected> {
-        check_pipeline_task(alloc, value, location)?;
-        let (name, source) = read_front(alloc, value, location)?;
-        let inputs = read_inputs(alloc, value, location)?;
-        let options = read_options(alloc, value, location)?;
-        check_rules(alloc, value, &options, location)?;
+    fn read(alloc: Global, value: &Json, place: &Location<'_>) -> Result<PipelineTask, Rejected> {
+        check_pipeline_task(alloc, value, place)?;
+        let (name, source) = read_front(alloc, value, place)?;
+        let inputs = read_inputs(alloc, value, place)?;
+        let options = read_options(alloc, value, place)?;
+        check_rules(alloc, value, &options, place)?;
         Ok(PipelineTask {
             name,
             source,
@@ -390,12 +386,8 @@ impl Reader for PipelineSpecForm {
     ghost value_of = { pipeline_spec_of };
 
     #[tactic(auto, unfolding(crate::specs::Pipeline::pipeline_spec))]
-    fn read(
-        alloc: Global,
-        value: &Json,
-        location: &Location<'_>,
-    ) -> Result<PipelineSpec, Rejected> {
-        check_pipeline_spec(alloc, value, location)?;
-        Ok(read_pipeline_spec(alloc, value, location)?)
+    fn read(alloc: Global, value: &Json, place: &Location<'_>) -> Result<PipelineSpec, Rejected> {
+        check_pipeline_spec(alloc, value, place)?;
+        Ok(read_pipeline_spec(alloc, value, place)?)
     }
 }

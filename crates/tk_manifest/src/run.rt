@@ -47,9 +47,9 @@ impl Reader for PipelineRefForm {
     ghost value_of = { text_at (codes "name") };
 
     #[tactic(auto, unfolding(crate::specs::Run::pipeline_ref, crate::specs::Run::pipeline_ref_name))]
-    fn read(alloc: Global, value: &Json, location: &Location<'_>) -> Result<Text, Rejected> {
-        check_pipeline_ref(alloc, value, location)?;
-        Ok(required::<AnyText>(alloc, value, location, "name")?)
+    fn read(alloc: Global, value: &Json, place: &Location<'_>) -> Result<Text, Rejected> {
+        check_pipeline_ref(alloc, value, place)?;
+        Ok(required::<AnyText>(alloc, value, place, "name")?)
     }
 }
 
@@ -157,9 +157,9 @@ impl Reader for TimeoutsForm {
     ghost value_of = { timeouts_of };
 
     #[tactic(auto, unfolding(crate::specs::Run::timeouts))]
-    fn read(alloc: Global, value: &Json, location: &Location<'_>) -> Result<Given3, Rejected> {
-        check_timeouts(alloc, value, location)?;
-        Ok(read_timeouts(alloc, value, location)?)
+    fn read(alloc: Global, value: &Json, place: &Location<'_>) -> Result<Given3, Rejected> {
+        check_timeouts(alloc, value, place)?;
+        Ok(read_timeouts(alloc, value, place)?)
     }
 }
 

@@ -47,9 +47,9 @@ impl Reader for EnvForm {
     ghost value_of = { env_of };
 
     #[tactic(auto, unfolding(crate::specs::Task::env))]
-    fn read(alloc: Global, value: &Json, location: &Location<'_>) -> Result<Pair, Rejected> {
-        check_env(alloc, value, location)?;
-        Ok(read_env(alloc, value, location)?)
+    fn read(alloc: Global, value: &Json, place: &Location<'_>) -> Result<Pair, Rejected> {
+        check_env(alloc, value, place)?;
+        Ok(read_env(alloc, value, place)?)
     }
 }
 
@@ -161,12 +161,12 @@ impl Reader for StepForm {
     ghost value_of = { step_of };
 
     #[tactic(auto, unfolding(crate::specs::Task::step, crate::specs::Task::step_of, crate::specs::Task::step_command_of))]
-    fn read(alloc: Global, value: &Json, location: &Location<'_>) -> Result<Step, Rejected> {
-        check_step(alloc, value, location)?;
-        let run = read_command(alloc, value, location)?;
-        let (env, dir) = read_surroundings(alloc, value, location)?;
-        let keep_going = read_on_error(alloc, value, location)?;
-        check_command(alloc, has_field(value, "script"), &run.command, location)?;
+    fn read(alloc: Global, value: &Json, place: &Location<'_>) -> Result<Step, Rejected> {
+        check_step(alloc, value, place)?;
+        let run = read_command(alloc, value, place)?;
+        let (env, dir) = read_surroundings(alloc, value, place)?;
+        let keep_going = read_on_error(alloc, value, place)?;
+        check_command(alloc, has_field(value, "script"), &run.command, place)?;
         Ok(Step {
             name: run.name,
             command: run.command,
@@ -216,9 +216,9 @@ impl Reader for TaskSpecForm {
     ghost value_of = { task_spec_of };
 
     #[tactic(auto, unfolding(crate::specs::Task::task_spec))]
-    fn read(alloc: Global, value: &Json, location: &Location<'_>) -> Result<TaskSpec, Rejected> {
-        check_task_spec(alloc, value, location)?;
-        Ok(read_task_spec(alloc, value, location)?)
+    fn read(alloc: Global, value: &Json, place: &Location<'_>) -> Result<TaskSpec, Rejected> {
+        check_task_spec(alloc, value, place)?;
+        Ok(read_task_spec(alloc, value, place)?)
     }
 }
 
@@ -287,9 +287,9 @@ impl Reader for TaskRefForm {
     ghost value_of = { text_at (codes "name") };
 
     #[tactic(auto, unfolding(crate::specs::Task::task_ref))]
-    fn read(alloc: Global, value: &Json, location: &Location<'_>) -> Result<Text, Rejected> {
-        check_task_ref(alloc, value, location)?;
-        Ok(read_task_ref(alloc, value, location)?)
+    fn read(alloc: Global, value: &Json, place: &Location<'_>) -> Result<Text, Rejected> {
+        check_task_ref(alloc, value, place)?;
+        Ok(read_task_ref(alloc, value, place)?)
     }
 }
 

@@ -48,9 +48,9 @@ impl Reader for TaskSpaceForm {
     ghost value_of = { space_spec_of };
 
     #[tactic(auto, unfolding(crate::specs::Workspace::task_space))]
-    fn read(alloc: Global, value: &Json, location: &Location<'_>) -> Result<SpaceSpec, Rejected> {
-        check_task_space(alloc, value, location)?;
-        Ok(read_space(alloc, value, location)?)
+    fn read(alloc: Global, value: &Json, place: &Location<'_>) -> Result<SpaceSpec, Rejected> {
+        check_task_space(alloc, value, place)?;
+        Ok(read_space(alloc, value, place)?)
     }
 }
 
@@ -74,9 +74,9 @@ impl Reader for PipelineSpaceForm {
     ghost value_of = { space_spec_of };
 
     #[tactic(auto, unfolding(crate::specs::Workspace::pipeline_space))]
-    fn read(alloc: Global, value: &Json, location: &Location<'_>) -> Result<SpaceSpec, Rejected> {
-        check_pipeline_space(alloc, value, location)?;
-        Ok(read_space(alloc, value, location)?)
+    fn read(alloc: Global, value: &Json, place: &Location<'_>) -> Result<SpaceSpec, Rejected> {
+        check_pipeline_space(alloc, value, place)?;
+        Ok(read_space(alloc, value, place)?)
     }
 }
 
@@ -130,10 +130,10 @@ impl Reader for SpaceUseForm {
     ghost value_of = { space_use_of };
 
     #[tactic(auto, unfolding(crate::specs::Workspace::space_use, crate::specs::Workspace::space_use_of))]
-    fn read(alloc: Global, value: &Json, location: &Location<'_>) -> Result<SpaceUse, Rejected> {
-        check_space_use(alloc, value, location)?;
-        let (name, from) = read_space_names(alloc, value, location)?;
-        let sub = read_sub_path(alloc, value, location)?;
+    fn read(alloc: Global, value: &Json, place: &Location<'_>) -> Result<SpaceUse, Rejected> {
+        check_space_use(alloc, value, place)?;
+        let (name, from) = read_space_names(alloc, value, place)?;
+        let sub = read_sub_path(alloc, value, place)?;
         Ok(SpaceUse { name, from, sub })
     }
 }
@@ -148,10 +148,10 @@ impl Reader for FolderForm {
 
     ghost value_of = { λ _. tt };
 
-    fn read(alloc: Global, value: &Json, location: &Location<'_>) -> Result<(), Rejected> {
+    fn read(alloc: Global, value: &Json, place: &Location<'_>) -> Result<(), Rejected> {
         match value {
             Json::Object(_) => Ok(()),
-            _ => Err(refusal(alloc, 2, location)),
+            _ => Err(refusal(alloc, 2, place)),
         }
     }
 }
@@ -176,9 +176,9 @@ impl Reader for ClaimForm {
     ghost value_of = { text_at (codes "claimName") };
 
     #[tactic(auto, unfolding(crate::specs::Workspace::claim, crate::specs::Workspace::claim_name))]
-    fn read(alloc: Global, value: &Json, location: &Location<'_>) -> Result<Text, Rejected> {
-        check_claim(alloc, value, location)?;
-        let name = required::<TextThat<ObjectName>>(alloc, value, location, "claimName")?;
+    fn read(alloc: Global, value: &Json, place: &Location<'_>) -> Result<Text, Rejected> {
+        check_claim(alloc, value, place)?;
+        let name = required::<TextThat<ObjectName>>(alloc, value, place, "claimName")?;
         Ok(name)
     }
 }
@@ -228,12 +228,12 @@ impl Reader for BindingForm {
     ghost value_of = { binding_of };
 
     #[tactic(auto, unfolding(crate::specs::Workspace::binding, crate::specs::Workspace::binding_of))]
-    fn read(alloc: Global, value: &Json, location: &Location<'_>) -> Result<Space, Rejected> {
-        check_binding(alloc, value, location)?;
-        let name = required::<TextThat<DnsLabel>>(alloc, value, location, "name")?;
-        let sub = read_sub_path(alloc, value, location)?;
-        let claim = read_claim(alloc, value, location)?;
-        check_folder_or_claim(alloc, value, location)?;
+    fn read(alloc: Global, value: &Json, place: &Location<'_>) -> Result<Space, Rejected> {
+        check_binding(alloc, value, place)?;
+        let name = required::<TextThat<DnsLabel>>(alloc, value, place, "name")?;
+        let sub = read_sub_path(alloc, value, place)?;
+        let claim = read_claim(alloc, value, place)?;
+        check_folder_or_claim(alloc, value, place)?;
         Ok(Space { name, claim, sub })
     }
 }

@@ -17,16 +17,16 @@ fn read_event(
     counts: Counts,
     reading: u64,
     value: &Value,
-    location: &Location<'_>,
+    place: &Location<'_>,
 ) -> Result<Event, Rejected>
-    ensures { Reads (event_check counts reading location.now (view value.now)) (event_told counts reading (view value.now)) result }
+    ensures { Reads (event_check counts reading place.now (view value.now)) (event_told counts reading (view value.now)) result }
 {
     let Some(text) = value.as_str() else {
-        return Err(refusal(alloc, 2, location));
+        return Err(refusal(alloc, 2, place));
     };
     match event(alloc, counts, reading, text)? {
         Some(event) => Ok(event),
-        None => Err(refusal(alloc, 11, location)),
+        None => Err(refusal(alloc, 11, place)),
     }
 }
 

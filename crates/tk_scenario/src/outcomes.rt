@@ -25,14 +25,14 @@ impl Reader for OutcomeForm {
 
     ghost value_of = { outcome_of };
 
-    fn read(alloc: Global, value: &Value, location: &Location<'_>) -> Result<Scripted, Rejected> {
+    fn read(alloc: Global, value: &Value, place: &Location<'_>) -> Result<Scripted, Rejected> {
         let table = field_table!(Used "taskRun" "attempt" "exits" "results");
-        check_object(alloc, value, &table, location)?;
+        check_object(alloc, value, &table, place)?;
         Ok(Scripted {
-            task_run: required::<AnyText>(alloc, value, location, "taskRun")?,
-            attempt: required::<Below32>(alloc, value, location, "attempt")?,
-            exits: or_empty::<Each<Below8>>(alloc, value, location, "exits")?,
-            files: or_empty::<EachMember<TextEntry>>(alloc, value, location, "results")?,
+            task_run: required::<AnyText>(alloc, value, place, "taskRun")?,
+            attempt: required::<Below32>(alloc, value, place, "attempt")?,
+            exits: or_empty::<Each<Below8>>(alloc, value, place, "exits")?,
+            files: or_empty::<EachMember<TextEntry>>(alloc, value, place, "results")?,
         })
     }
 }
@@ -112,11 +112,11 @@ impl Reader for OutcomesForm {
     fn read(
         alloc: Global,
         value: &Value,
-        location: &Location<'_>,
+        place: &Location<'_>,
     ) -> Result<List<Scripted>, Rejected> {
         match elements_of(value) {
-            Some(items) => read_items(alloc, items, location),
-            None => Err(refusal(alloc, 2, location)),
+            Some(items) => read_items(alloc, items, place),
+            None => Err(refusal(alloc, 2, place)),
         }
     }
 }

@@ -22,11 +22,11 @@ impl Reader for CountForm {
 
     ghost value_of = { number_of };
 
-    fn read(alloc: Global, value: &Value, location: &Location<'_>) -> Result<u32, Rejected> {
+    fn read(alloc: Global, value: &Value, place: &Location<'_>) -> Result<u32, Rejected> {
         match value.as_u64() {
             Some(number) if 1 <= number && number <= 8 => Ok(number as u32),
-            Some(_) => Err(refusal(alloc, 11, location)),
-            None => Err(refusal(alloc, 2, location)),
+            Some(_) => Err(refusal(alloc, 11, place)),
+            None => Err(refusal(alloc, 2, place)),
         }
     }
 }
