@@ -4,7 +4,7 @@ use Rattle.std.specs.Prelude.{codes, map}
 use Rattle.tk_types.specs.declared.task.TaskSource.TheVariants.{Named}
 use Rattle.tk_types.specs.declared.task.PipelineTask.{PipelineTask}
 use Rattle.tk_graph.specs.Parents.{parents}
-use Rattle.tk_graph.specs.Cycle.{left_of, cycle_of, name_at}
+use Rattle.tk_graph.specs.Cycle.{left_of, cycle_of, cycle_names, name_at}
 use Rattle.tk_graph.specs.Unknown.{first_unknown}
 
 abbrev task : List ℕ → List (List ℕ) → PipelineTask
@@ -23,6 +23,9 @@ all_known = refl
 
 nothing_left : left_of two ≡ []
 nothing_left = refl
+
+nothing_told : cycle_names two ≡ None
+nothing_told = refl
 
 -- two tasks of one name, named twice
 abbrev same : List PipelineTask
@@ -47,6 +50,9 @@ tail_left = refl
 
 tail_names : map (name_at tail) (cycle_of tail) ≡ codes "c" ∷ codes "b" ∷ []
 tail_names = refl
+
+tail_told : cycle_names tail ≡ Some (codes "c" ∷ codes "b" ∷ [])
+tail_told = refl
 
 -- the first task that names an unknown one, and its first such name
 abbrev strange : List PipelineTask

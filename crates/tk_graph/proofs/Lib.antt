@@ -3,6 +3,7 @@ pub mod Among
 pub mod Ascending
 pub mod ChildLists
 pub mod CycleFound
+pub mod CycleNames
 pub mod LeftOver
 pub mod Outcome
 pub mod PlacesWhere

@@ -1,9 +1,9 @@
 -- The tasks that can't be ranked, and a cycle among them.
-use Rattle.std.specs.Prelude.{ℕ, zero, suc, ◌+◌, ◌-◌, ◌<◌, Bool, true, false, ◌==◌, if◌then◌else◌, List, [], ◌∷◌, ◌++◌, filter, find, length, slice_get, slice_index, Contains}
+use Rattle.std.specs.Prelude.{ℕ, zero, suc, ◌+◌, ◌-◌, ◌<◌, Bool, true, false, ◌==◌, if◌then◌else◌, List, [], ◌∷◌, ◌++◌, Option, Some, None, filter, find, length, map, slice_get, slice_index, Contains}
 use Rattle.std.specs.List.{list_any, range_with_len}
 use Rattle.std.specs.Option.{option_map_or}
 use Rattle.tk_types.specs.declared.task.PipelineTask.{PipelineTask}
-use Rattle.tk_types.specs.Lists.{repeated}
+use Rattle.tk_types.specs.Lists.{is_empty, repeated}
 use Rattle.tk_graph.specs.Parents.{parents}
 
 -- the place is in the list
@@ -43,6 +43,10 @@ cycle_of tasks = option_map_or (walk (parents tasks) (is_among (left_of tasks)) 
 -- the name of the task at a place
 abbrev pub name_at : List PipelineTask → ℕ → List ℕ
 name_at tasks place = option_map_or (λ (t : PipelineTask). t.name) (slice_get tasks place) []
+
+-- the names of the cycle that is told, if tasks are left
+abbrev pub cycle_names : List PipelineTask → Option (List (List ℕ))
+cycle_names tasks = if is_empty (left_of tasks) then None else Some (map (name_at tasks) (cycle_of tasks))
 
 -- each place is a parent of the one before it, and the first of the last
 pub record IsCycle (above : ℕ → List ℕ) (places : List ℕ) : Type 0 where

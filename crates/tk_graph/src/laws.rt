@@ -2,7 +2,7 @@
 
 ghost use Rattle.std.specs.Prelude.{◌≡◌, ◌↔◌, ◌≢◌, ℕ, List, [], None, All, IsTrue};
 ghost use Rattle.tk_types.specs.declared.task.PipelineTask.{PipelineTask};
-ghost use Rattle.tk_graph.specs.Cycle.{left_of, cycle_of, IsCycle};
+ghost use Rattle.tk_graph.specs.Cycle.{left_of, cycle_of, cycle_names, IsCycle};
 ghost use Rattle.tk_graph.specs.Parents.{parents, parent_names, IsAcyclic, IsAncestor};
 ghost use Rattle.tk_graph.specs.Unknown.{first_unknown, is_known};
 
@@ -15,6 +15,11 @@ pub fn acyclic()
 /// Where tasks are left, the cycle that is told is one.
 pub fn cycle()
     ensures { (tasks : List PipelineTask) → left_of tasks ≢ [] → IsCycle (parents tasks) (cycle_of tasks) }
+{}
+
+/// No cycle is told exactly where the tasks can be ranked.
+pub fn no_cycle()
+    ensures { (tasks : List PipelineTask) → (cycle_names tasks ≡ None) ↔ IsAcyclic tasks }
 {}
 
 /// No name is unknown exactly where each parent that a task names is a task's name.

@@ -1,17 +1,19 @@
-ghost use Rattle.std.specs.Prelude.{◌≡◌, ◌<◌, ◌^◌, None, length, map, IfOk, IfErr, OnOk};
+ghost use Rattle.std.specs.Prelude.{◌≡◌, ◌≢◌, ◌<◌, ◌^◌, [], None, length, map, IfOk, IfErr, OnOk};
 ghost use Rattle.std.specs.List.{range_with_len};
+ghost use Rattle.tk_graph.specs.Cycle.{left_of, cycle_of, cycle_names, name_at};
 ghost use Rattle.tk_graph.specs.Order.{IsOrderRefusal};
 ghost use Rattle.tk_graph.specs.Parents.{parents as parents_of, IsRanking};
 ghost use Rattle.tk_graph.specs.Unknown.{first_unknown as first_unknown_of};
 
-use crate::above::edges;
+use crate::above::{all_parents, edges};
+use crate::laws::acyclic;
 use crate::names::Names;
 use crate::refusal::OrderError;
 use crate::removal::{places, remove};
 use crate::unknown::first_unknown;
 use crate::walk::{first_left, names_at, walk};
-use std::alloc::Global;
-use tk_types::{List, PipelineTask};
+use std::alloc::{AllocError, Global};
+use tk_types::{List, PipelineTask, Text};
 
 /// A rank for each task, by its place.
 #[derive(Drop)]
@@ -19,24 +21,28 @@ pub struct Ranks {
     pub list: List<u32>,
 }
 
-/// Ranks, or the cycle that keeps tasks from having them.
-fn ranked(alloc: Global, tasks: &[PipelineTask], above: &[List<u32>]) -> Result<Ranks, OrderError>
+/// Ranks, or the names of the cycle that keeps tasks from having them. The only error is want of memory.
+fn ranked(
+    alloc: Global,
+    tasks: &[PipelineTask],
+    above: &[List<u32>],
+) -> Result<Result<Ranks, List<Text>>, AllocError>
     requires few { length tasks.now < 2 ^ 32 }
-    requires known { first_unknown_of tasks.now ≡ None }
     requires parents { above.now ≡ map (parents_of tasks.now) (range_with_len 0 (length tasks.now)) }
-    ensures ranks { IfOk result (λ ranks. IsRanking tasks.now ranks.list) }
-    ensures refused { IfErr result (IsOrderRefusal tasks.now) }
+    ensures ranks { IfOk result (λ found. IfOk found (λ ranks. IsRanking tasks.now ranks.list)) }
+    ensures left { IfOk result (λ found. IfErr found (λ names. left_of tasks.now ≢ [])) }
+    ensures names { IfOk result (λ found. IfErr found (λ names. names ≡ map (name_at tasks.now) (cycle_of tasks.now))) }
 {
     let ranks = remove(alloc, above)?;
     let all = places(alloc, tasks.len())?;
     let Some(first) = first_left(all.as_slice(), ranks.as_slice()) else {
-        return Ok(Ranks {
+        return Ok(Ok(Ranks {
             list: List::from_vec(ranks),
-        });
+        }));
     };
     let cycle = walk(alloc, above, ranks.as_slice(), first)?;
     let names = names_at(alloc, tasks, cycle.as_slice())?;
-    Err(OrderError::Cycle { names })
+    Ok(Err(names))
 }
 
 /// Ranks that rise from each parent to its child, in time near the number of tasks and parents. Refused are a name of a
@@ -54,17 +60,34 @@ pub fn order(alloc: Global, tasks: &[PipelineTask]) -> Result<Ranks, OrderError>
         return Err(OrderError::UnknownTask { task, name });
     }
     let above = edges(alloc, &names)?;
-    ranked(alloc, tasks, above.as_slice())
+    match ranked(alloc, tasks, above.as_slice())? {
+        Ok(ranks) => Ok(ranks),
+        Err(names) => Err(OrderError::Cycle { names }),
+    }
+}
+
+/// The names of a cycle among the tasks that can't be ranked, if there are such: from the first of them to its first
+/// parent that can't be, and so on until one comes twice, the names from its first coming on. A name that no task has
+/// is passed over (Tekton, Pipelines, Using the runAfter field). The only error is want of memory.
+pub fn cycle(alloc: Global, tasks: &[PipelineTask]) -> Result<Option<List<Text>>, AllocError>
+    requires { length tasks.now < 2 ^ 32 }
+    ensures { IfOk result (λ names. names ≡ cycle_names tasks.now) }
+{
+    acyclic();
+    let above = all_parents(alloc, tasks)?;
+    match ranked(alloc, tasks, above.as_slice())? {
+        Ok(_ranks) => Ok(None),
+        Err(names) => Ok(Some(names)),
+    }
 }
 
 #[cfg(test)]
 mod tests {
     use super::*;
-    use crate::above::{all_parents, parents};
-    use std::alloc::AllocError;
+    use crate::above::parents;
     use std::process::Abort;
     use std::test::Fail;
-    use tk_types::{Matrix, Param, TaskSource, Text, Value, When};
+    use tk_types::{Matrix, Param, TaskSource, Value, When};
 
     fn param(alloc: Global, value: &str) -> Result<Param, AllocError> {
         Ok(Param {
@@ -110,6 +133,15 @@ mod tests {
         Ok(tasks)
     }
 
+    fn names_line(alloc: Global, names: &[Text]) -> Result<String, AllocError> {
+        let mut line = String::from_str(alloc, "cycle")?;
+        for name in names {
+            line.push_str(" ")?;
+            line.push_str(name.as_str())?;
+        }
+        Ok(line)
+    }
+
     fn answer(
         rt: &impl Abort,
         alloc: Global,
@@ -122,13 +154,7 @@ mod tests {
             Err(OrderError::UnknownTask { task, name }) => {
                 line = format!(in alloc; "unknown {task} {}", name.as_str())?;
             }
-            Err(OrderError::Cycle { names: told }) => {
-                line.push_str("cycle")?;
-                for name in told.as_slice() {
-                    line.push_str(" ")?;
-                    line.push_str(name.as_str())?;
-                }
-            }
+            Err(OrderError::Cycle { names: told }) => line = names_line(alloc, told.as_slice())?,
             Err(OrderError::Memory) => line.push_str("memory")?,
         }
         Ok(line)
@@ -159,6 +185,44 @@ mod tests {
             let tasks = tasks(rt.alloc(), text)?;
             assert_eq!(rt;
                 answer(&rt, rt.alloc(), tasks.as_slice())?.as_str(),
+                told,
+                "at {text}"
+            );
+        }
+        Ok(())
+    }
+
+    fn cycle_line(
+        rt: &impl Abort,
+        alloc: Global,
+        tasks: &[PipelineTask],
+    ) -> Result<String, AllocError> {
+        assert!(rt; tasks.len() < 1000);
+        match cycle(alloc, tasks)? {
+            Some(names) => names_line(alloc, names.as_slice()),
+            None => String::from_str(alloc, "none"),
+        }
+    }
+
+    #[test]
+    fn cycles(rt: HostRuntime) -> Result<(), Fail> {
+        for (text, told) in [
+            ("a,b a", "none"),
+            ("a,b a a,c a b a b,a", "none"),
+            ("a b,b a", "cycle a b"),
+            ("a,b b", "cycle b"),
+            ("d,a d c,b c,c b", "cycle c b"),
+            ("a c b,b a,c a", "cycle a b"),
+            ("a,b x", "none"),
+            ("a,b a y x,c w", "none"),
+            ("a b x,b a", "cycle a b"),
+            ("a b,b a,c d", "cycle a b"),
+            ("a,b $(tasks.a.results.r)", "none"),
+            ("a $(tasks.b.results['r'])-,b a", "cycle a b"),
+        ] {
+            let tasks = tasks(rt.alloc(), text)?;
+            assert_eq!(rt;
+                cycle_line(&rt, rt.alloc(), tasks.as_slice())?.as_str(),
                 told,
                 "at {text}"
             );

@@ -42,9 +42,10 @@ fn task_in(parts: &[Part]) -> Option<&str>
     }
 }
 
-/// The task of whose results a reference with these parts names one.
+/// The task of whose results a reference with these parts names one, if it does (Tekton, Pipelines, Passing one
+/// Task's Results into the Parameters or when expressions of another).
 #[tactic(auto, unfolding(crate::specs::Tasks::part_task))]
-fn task_of(parts: &[Part]) -> Option<&str>
+pub fn task_of(parts: &[Part]) -> Option<&str>
     ensures { option_map (λ name. name.now) result ≡ part_task parts.now }
 {
     let Some((head, rest)) = named(parts) else {

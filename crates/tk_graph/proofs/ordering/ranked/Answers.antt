@@ -48,8 +48,17 @@ names_at-requires c = λ k d lt.
     let small = c.in_ok-cycle.ensures.places k d (subst (λ xs. k < length xs) c.as_slice-4.ensures.value lt) in
     omega (arith, small, ap (λ xs. get_or xs k d) c.as_slice-4.ensures.value, length_above c.args.tasks.now c.args.above.now c.requires.parents)
 
-pub returns-clause-refused : goal.returns-clause-refused
-returns-clause-refused c =
+pub returns-clause-left : goal.returns-clause-left
+returns-clause-left c =
+    let tasks = c.args.tasks.now in
+    let ranks = c.in_ok-ranks.ranks.items in
+    let is : Some c.in-Some.first ≡ find (is_left ranks) (range_with_len 0 (length tasks)) =
+    c.in-Some.ensures.first
+    ∙ (ap (λ rs. find (is_left rs) c.as_slice.result.now) c.as_slice-2.ensures.value ∙ ap (find (is_left ranks)) (c.as_slice.ensures.value ∙ c.in_ok-all.ensures)) in
+    some_left tasks c.args.above.now c.requires.parents ranks c.in_ok-ranks.ensures c.in-Some.first is
+
+pub returns-clause-names : goal.returns-clause-names
+returns-clause-names c =
     let tasks = c.args.tasks.now in
     let above = c.args.above.now in
     let ranks = c.in_ok-ranks.ranks.items in
@@ -58,9 +67,6 @@ returns-clause-refused c =
     let first : c.in-Some.first < length tasks = omega (arith, small, among.2) in
     let is : Some c.in-Some.first ≡ find (is_left ranks) (range_with_len 0 (length tasks)) =
     c.in-Some.ensures.first
-    ∙ (ap (λ rs. find (is_left rs) c.as_slice.result.now) c.as_slice-2.ensures.value ∙ ap (find (is_left ranks)) (c.as_slice.ensures.value ∙ c.in_ok-all.ensures)) in (
-      c.requires.known,
-      some_left tasks above c.requires.parents ranks c.in_ok-ranks.ensures c.in-Some.first is,
-      c.in_ok-names.ensures
-          ∙ ap (map (name_at tasks)) (c.as_slice-4.ensures.value ∙ (c.in_ok-cycle.ensures.walked ∙ (ap (λ rs. walked_from (parents_at above) (is_left rs) (length above) c.in-Some.first) c.as_slice-3.ensures.value ∙ cycle_of_is tasks above c.requires.parents ranks c.in_ok-ranks.ensures c.in-Some.first first is))),
-    )
+    ∙ (ap (λ rs. find (is_left rs) c.as_slice.result.now) c.as_slice-2.ensures.value ∙ ap (find (is_left ranks)) (c.as_slice.ensures.value ∙ c.in_ok-all.ensures)) in
+    c.in_ok-names.ensures
+    ∙ ap (map (name_at tasks)) (c.as_slice-4.ensures.value ∙ (c.in_ok-cycle.ensures.walked ∙ (ap (λ rs. walked_from (parents_at above) (is_left rs) (length above) c.in-Some.first) c.as_slice-3.ensures.value ∙ cycle_of_is tasks above c.requires.parents ranks c.in_ok-ranks.ensures c.in-Some.first first is)))
