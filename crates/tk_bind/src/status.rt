@@ -10,10 +10,7 @@ pub fn status_task(parts: &[Part]) -> Option<&Word>
 {
     match parts {
         [Part::Name(head), Part::Name(task), Part::Name(last)]
-            if head.as_str() == "tasks" && last.as_str() == "status" =>
-        {
-            Some(task)
-        }
+            if head.as_str() == "tasks" && last.as_str() == "status" => { Some(task) }
         _ => None,
     }
 }
