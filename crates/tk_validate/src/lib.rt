@@ -1,12 +1,14 @@
 //! The rules on one object of an input: what is wrong with it first, by rules in a fixed order, each at its places in
 //! reading order. The rules and their order stand in `specs/Validate.antt`, each rule in a file of its own.
 //!
-//! The rules on sizes, on the types of values, on workspaces and on a run's timeouts have bodies, each exact by its
-//! rule.
+//! The rules on sizes, on names, on the types of values, on workspaces and on a run's timeouts have bodies, each exact
+//! by its rule.
 #![tactic(auto)]
 
+mod entry;
 mod name_set;
 mod named;
+mod names;
 mod rule;
 mod seen;
 mod sited;
@@ -15,6 +17,7 @@ mod timeouts;
 mod types;
 mod workspaces;
 
+pub use names::check_names;
 pub use rule::{Rule, check_all, check_each, check_there, told};
 pub use seen::Seen;
 pub use sizes::check_sizes;
