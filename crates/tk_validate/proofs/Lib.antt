@@ -1,3 +1,4 @@
 mod Examples
+mod FewTasks
 mod InOrder
 mod NameAdded

@@ -1,10 +1,11 @@
 //! The rules on one object of an input: what is wrong with it first, by rules in a fixed order, each at its places in
 //! reading order. The rules and their order stand in `specs/Validate.antt`, each rule in a file of its own.
 //!
-//! The rules on sizes, on names, on the types of values, on workspaces and on a run's timeouts have bodies, each exact
-//! by its rule.
+//! The rules on sizes, on names, on the types of values, on workspaces, on cycles and on a run's timeouts have bodies,
+//! each exact by its rule.
 #![tactic(auto)]
 
+mod cycle;
 mod entry;
 mod name_set;
 mod named;
@@ -17,6 +18,7 @@ mod timeouts;
 mod types;
 mod workspaces;
 
+pub use cycle::check_cycles;
 pub use names::check_names;
 pub use rule::{Rule, check_all, check_each, check_there, told};
 pub use seen::Seen;
