@@ -1,15 +1,10 @@
 -- A pipeline within its sizes has few tasks.
-use Rattle.std.proofs.Common.{◌≡◌, ℕ, ◌+◌, ◌<◌, ◌≤◌, ◌^◌, Some, None, length, refl, arith}
+use Rattle.std.proofs.Common.{◌≡◌, ℕ, ◌+◌, ◌<◌, ◌≤◌, ◌^◌, None, length, arith}
 use Rattle.std.proofs.lemmas.Bool.Decides.{nat_tests}
-use Rattle.std.specs.Option.{option_or}
 use Rattle.tk_types.specs.declared.object.PipelineSpec.{PipelineSpec}
 use Rattle.tk_types.specs.Place.{Place}
-use Rattle.tk_types.specs.First.{Finding}
 use Rattle.tk_validate.specs.Sizes.{over, pipeline_within}
-
-first_none : (a b : Finding) → option_or a b ≡ None → a ≡ None
-first_none None b e = refl
-first_none (Some x) b e = e
+use Rattle.tk_validate.proofs.FirstNone.{first_none}
 
 not_over : (limit : ℕ) (at : Place) (count : ℕ) → over limit at count ≡ None → count ≤ limit
 not_over limit at count e = grind (arith, nat_tests)

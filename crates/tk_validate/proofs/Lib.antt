@@ -1,4 +1,7 @@
 mod Examples
 mod FewTasks
+mod FirstNone
+mod GoodTexts
 mod InOrder
 mod NameAdded
+mod ValidReads

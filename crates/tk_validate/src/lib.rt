@@ -7,6 +7,7 @@
 
 mod cycle;
 mod entry;
+pub mod laws;
 mod name_set;
 mod named;
 mod names;

@@ -1,0 +1,46 @@
+-- Where no fault is found, none is found in any part.
+use Rattle.std.proofs.Common.{◌≡◌, ℕ, suc, List, [], ◌∷◌, map, Option, Some, None, option_map, refl, subst}
+use Rattle.std.specs.Prelude.{All}
+use Rattle.std.specs.Option.{option_or, ForSome}
+use Rattle.std.specs.List.{AllByRecursion}
+use Rattle.std.proofs.lemmas.List.Elements.{All-nil, All-cons}
+use Rattle.tk_types.specs.Place.{Place, ◌#◌}
+use Rattle.tk_types.specs.First.{Finding, first_of, first_from, first_in, first_if_there, IsNothing}
+
+-- of two findings, and of some
+pub first_none : (a b : Finding) → option_or a b ≡ None → a ≡ None
+first_none None b e = refl
+first_none (Some x) b e = e
+
+pub rest_none : (a b : Finding) → option_or a b ≡ None → b ≡ None
+rest_none None b e = e
+rest_none (Some x) b e = cc
+
+pub map_none : {X Y : Type 0} (f : X → Y) (o : Option X) → option_map f o ≡ None → o ≡ None
+map_none f None e = refl
+map_none f (Some x) e = cc
+
+pub all_none : (findings : List Finding) → first_of findings ≡ None → AllByRecursion IsNothing findings
+all_none [] e = tt
+all_none (found ∷ findings) e = (first_none found (first_of findings) e, all_none findings (rest_none found (first_of findings) e))
+
+-- of a list, at the places of its elements and at others
+from_none : {X : Type 0} (check : Place → X → Finding) (P : X → Type 0) → ((at : Place) (x : X) → check at x ≡ None → P x) → (at : Place) (n : ℕ) (xs : List X) → first_from check at n xs ≡ None → All P xs
+from_none check P holds at n [] e = All-nil P
+from_none check P holds at n (x ∷ xs) e =
+    All-cons P x xs
+    (holds (at # n) x (first_none (check (at # n) x) (first_from check at (suc n) xs) e))
+    (from_none check P holds at (suc n) xs (rest_none (check (at # n) x) (first_from check at (suc n) xs) e))
+
+pub each_none : {X : Type 0} (check : Place → X → Finding) (P : X → Type 0) → ((at : Place) (x : X) → check at x ≡ None → P x) → (at : Place) (xs : List X) → first_in check at xs ≡ None → All P xs
+each_none check P holds at xs e = from_none check P holds at 0 xs e
+
+pub mapped_none : {X : Type 0} (find : X → Finding) (P : X → Type 0) → ((x : X) → find x ≡ None → P x) → (xs : List X) → first_of (map find xs) ≡ None → All P xs
+mapped_none find P holds [] e = All-nil P
+mapped_none find P holds (x ∷ xs) e =
+    All-cons P x xs (holds x (first_none (find x) (first_of (map find xs)) e)) (mapped_none find P holds xs (rest_none (find x) (first_of (map find xs)) e))
+
+-- of what is there
+pub there_none : {X : Type 0} (find : X → Finding) (P : X → Type 0) → ((x : X) → find x ≡ None → P x) → (o : Option X) → first_if_there find o ≡ None → ForSome o P
+there_none find P holds None e = λ x is. cc
+there_none find P holds (Some y) e = λ x is. let same : y ≡ x = cc in subst P same (holds y e)
