@@ -5,6 +5,7 @@
 //! each exact by its rule.
 #![tactic(auto)]
 
+mod conflicts;
 mod cycle;
 mod entry;
 pub mod laws;
@@ -19,6 +20,7 @@ mod timeouts;
 mod types;
 mod workspaces;
 
+pub use conflicts::check_conflicts;
 pub use cycle::check_cycles;
 pub use names::check_names;
 pub use rule::{Rule, check_all, check_each, check_there, told};
