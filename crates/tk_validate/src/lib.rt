@@ -8,6 +8,7 @@
 mod conflicts;
 mod cycle;
 mod entry;
+mod finally;
 pub mod laws;
 mod name_set;
 mod named;
@@ -22,6 +23,7 @@ mod workspaces;
 
 pub use conflicts::check_conflicts;
 pub use cycle::check_cycles;
+pub use finally::check_finally;
 pub use names::check_names;
 pub use rule::{Rule, check_all, check_each, check_there, told};
 pub use seen::Seen;
