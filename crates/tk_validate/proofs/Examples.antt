@@ -31,14 +31,14 @@ use Rattle.tk_validate.specs.Named.{read_references, whole_read}
 use Rattle.tk_validate.specs.Names.{differ_from, pipeline_names}
 use Rattle.tk_validate.specs.Seen.{keys, pipeline_context, task_context}
 use Rattle.tk_validate.specs.Sizes.{pipeline_within}
-use Rattle.tk_validate.specs.Texts.{pipeline_texts, text_finding}
+use Rattle.tk_validate.specs.Texts.{alone_texts, inlined_texts, pipeline_texts, step_texts, text_finding}
 use Rattle.tk_validate.specs.Types.{pipeline_typed}
 use Rattle.tk_validate.specs.Validate.{item_fault}
 use Rattle.tk_validate.specs.Workspaces.{pipeline_hands_on, task_hands_on}
 
 -- what an example unfolds
 unfoldable all_rules : ⊤
-unfolding acyclic differ_from digits names_no part_task pipeline_conflicts pipeline_hands_on pipeline_names pipeline_obeys pipeline_texts pipeline_typed pipeline_within read_references takes_whole task_hands_on text_finding text_results whole_read
+unfolding acyclic alone_texts differ_from digits inlined_texts names_no part_task pipeline_conflicts pipeline_hands_on pipeline_names pipeline_obeys pipeline_texts pipeline_typed pipeline_within read_references step_texts takes_whole task_hands_on text_finding text_results whole_read
 all_rules = tt
 
 -- a step, a Task and a task that do nothing, and a pipeline of tasks

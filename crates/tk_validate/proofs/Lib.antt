@@ -5,3 +5,7 @@ mod GoodTexts
 mod InOrder
 mod NameAdded
 mod ValidReads
+pub mod AgreedKinds
+pub mod PiecesFinding
+pub mod SeenNames
+pub mod StepWords

@@ -22,7 +22,7 @@ use Rattle.tk_validate.specs.Names.{names_of}
 use Rattle.tk_validate.specs.Parts.{RuleOn, on_pipeline_source, on_inlined, on_each_task}
 use Rattle.tk_validate.specs.Seen.{given_seen, pipeline_seen, task_seen, pipeline_scope, pipeline_context, task_context}
 use Rattle.tk_validate.specs.Sited.{in_own_params, in_own_matrix, in_guards, in_results}
-use Rattle.tk_validate.specs.Texts.{text_finding, runs_after_known, step_texts, inlined_texts, task_texts, pipeline_texts, texts}
+use Rattle.tk_validate.specs.Texts.{text_finding, runs_after_known, step_texts, inlined_texts, alone_texts, task_texts, pipeline_texts, texts}
 use Rattle.tk_validate.specs.Validate.{item_fault, rules}
 use Rattle.tk_validate.proofs.FirstNone.{first_none, map_none, all_none, each_none}
 use Rattle.tk_validate.proofs.GoodTexts.{IsGood, reads_params, reads_own_matrix, reads_guards, reads_results, reads_steps}
@@ -40,7 +40,16 @@ module _ (knows : KnowsReadings) where
   good firsts scope whole at text e = knows text (map_none (bad_reference at) (bad_offset text) (first_none (option_map (bad_reference at) (bad_offset text)) _ e))
 
   spec_reads : (outside : List Seen) (context : List (List ℕ)) → PassesReads (step_texts outside context) ReadsTaskSpec
+  unfolding step_texts
   spec_reads outside context at spec e = reads_steps _ (good _ _) at spec e
+
+  inlined_reads : (outer : List Seen) (task : PipelineTask) → PassesReads (inlined_texts outer task) ReadsTaskSpec
+  unfolding inlined_texts
+  inlined_reads outer task at spec e = spec_reads (task_seen outer task) (pipeline_context ++ task_context) at spec e
+
+  alone_reads : (given : List Param) → PassesReads (alone_texts given) ReadsTaskSpec
+  unfolding alone_texts
+  alone_reads given at spec e = spec_reads (given_seen given) task_context at spec e
 
   source_reads : (rule : RuleOn TaskSpec) → PassesReads rule ReadsTaskSpec → PassesReads (on_inlined rule) ReadsTaskSource
   source_reads rule reads at (Named name) e = tt
@@ -59,7 +68,7 @@ module _ (knows : KnowsReadings) where
       ∷ [])
       e in
       record {
-        source = source_reads (inlined_texts outer task) (spec_reads (task_seen outer task) (pipeline_context ++ task_context)) at task.source found.0;
+        source = source_reads (inlined_texts outer task) (inlined_reads outer task) at task.source found.0;
         params = reads_params rule (good firsts scope) at task.params found.1.0;
         matrix = reads_own_matrix rule (good firsts scope) at task found.1.1.0;
         guards = reads_guards rule (good firsts scope) at task found.1.1.1.1.0;
@@ -93,9 +102,9 @@ module _ (knows : KnowsReadings) where
   pipeline_source_reads rule reads at (InlinedPipeline spec) e = reads (at ▸ codes "pipelineSpec") spec e
 
   object_reads : PassesReads texts ReadsObject
-  object_reads at (Task name spec) e = spec_reads (given_seen []) task_context at spec (first_none _ None e)
+  object_reads at (Task name spec) e = alone_reads [] at spec (first_none _ None e)
   object_reads at (Pipeline name spec) e = pipeline_reads [] at spec (first_none (pipeline_texts [] at spec) None e)
-  object_reads at (TaskRun run) e = source_reads (step_texts (given_seen run.params) task_context) (spec_reads (given_seen run.params) task_context) at run.source (first_none _ None e)
+  object_reads at (TaskRun run) e = source_reads (alone_texts run.params) (alone_reads run.params) at run.source (first_none _ None e)
   object_reads at (PipelineRun run) e = pipeline_source_reads (pipeline_texts run.params) (pipeline_reads run.params) at run.source (first_none _ None e)
   object_reads at (Outcomes name spec) e = tt
   object_reads at (Scenario name spec) e = tt

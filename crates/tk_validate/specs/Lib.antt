@@ -1,13 +1,16 @@
+pub mod Agreed
 pub mod Conflicts
 pub mod Cycle
 pub mod Finally
 pub mod Named
 pub mod Names
 pub mod Parts
+pub mod Scoped
 pub mod Seen
 pub mod Sited
 pub mod Sizes
 pub mod Texts
+pub mod TextsBy
 pub mod Timeouts
 pub mod Types
 pub mod Validate

@@ -45,12 +45,12 @@ abbrev pub runs_after_known : List (List ℕ) → RuleOn (List ℕ)
 runs_after_known firsts at name = refused_if (not (is_in firsts name)) (unknown_task at name)
 
 -- the texts of a Task's steps
-abbrev pub step_texts : List Seen → List (List ℕ) → RuleOn TaskSpec
+unfoldable pub step_texts : List Seen → List (List ℕ) → RuleOn TaskSpec
 step_texts outside context at spec = in_steps (text_finding [] (step_scope outside context spec)) at spec
 
 -- a spec inlined in a pipeline task sees what the task gives and what the pipeline sees, and the context variables of both
-abbrev pub inlined_texts : List Seen → PipelineTask → RuleOn TaskSpec
-inlined_texts outer task = step_texts (task_seen outer task) (pipeline_context ++ task_context)
+unfoldable pub inlined_texts : List Seen → PipelineTask → RuleOn TaskSpec
+inlined_texts outer task at spec = step_texts (task_seen outer task) (pipeline_context ++ task_context) at spec
 
 abbrev pub task_texts : List (List ℕ) → List Seen → Scope → Bool → RuleOn PipelineTask
 task_texts firsts outer scope is_last at task =
@@ -72,9 +72,12 @@ pipeline_texts given at pipeline =
     ∷ [])
 
 -- a Task that stands alone sees what is given to its run
+unfoldable pub alone_texts : List Param → RuleOn TaskSpec
+alone_texts given at spec = step_texts (given_seen given) task_context at spec
+
 abbrev pub texts : RuleOn ItemObject
 texts at object =
     first_of
     (on_pipeline (pipeline_texts (given_params object)) at object
-    ∷ on_task_spec (step_texts (given_seen (given_params object)) task_context) at object
+    ∷ on_task_spec (alone_texts (given_params object)) at object
     ∷ [])

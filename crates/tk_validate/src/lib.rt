@@ -5,18 +5,27 @@
 //! each exact by its rule.
 #![tactic(auto)]
 
+mod agreed;
 mod conflicts;
 mod cycle;
 mod entry;
 mod finally;
 pub mod laws;
+mod layers;
 mod name_set;
 mod named;
 mod names;
+mod outside;
+mod references;
 mod rule;
+mod scope;
 mod seen;
 mod sited;
 mod sizes;
+mod step_texts;
+mod task_seen;
+mod text_rule;
+mod texts;
 mod timeouts;
 mod types;
 mod workspaces;
@@ -28,6 +37,7 @@ pub use names::check_names;
 pub use rule::{Rule, check_all, check_each, check_there, told};
 pub use seen::Seen;
 pub use sizes::check_sizes;
+pub use texts::check_texts;
 pub use timeouts::check_timeouts;
 pub use types::check_types;
 pub use workspaces::check_workspaces;

@@ -1,3 +1,7 @@
+ghost use Rattle.std.specs.Prelude.{◌≡◌};
+ghost use Rattle.tk_validate.specs.Seen.{is_of_name, kind_seen};
+
+use tk_bind::{FirstNamed, Named};
 use tk_types::{ParamType, Text};
 
 /// A parameter that texts see, with its type where that is known.
@@ -5,4 +9,22 @@ use tk_types::{ParamType, Text};
 pub struct Seen {
     pub name: Text,
     pub kind: Option<ParamType>,
+}
+
+impl Named for Seen {
+    ghost name = { λ s. s.name };
+
+    fn name(&self) -> &str {
+        self.name.as_str()
+    }
+}
+
+/// The type of the first parameter of a name, where one is there and its type is known.
+pub(crate) fn kind_seen(seen: &FirstNamed<'_, Seen>, name: &str) -> Option<ParamType>
+    ensures { result ≡ kind_seen seen.now name.now }
+{
+    match seen.get(name) {
+        Some(found) => found.kind,
+        None => None,
+    }
 }

@@ -1,0 +1,18 @@
+use Rattle.std.proofs.Common.{◌≡◌, ◌∙◌, ap, sym, subst, option_map}
+use Rattle.tk_types.specs.First.{first_of}
+use Rattle.tk_types.specs.Rejected.{Reads}
+use Rattle.tk_types.specs.Fault.{bad_reference}
+use Rattle.tk_vars.specs.Offset.{bad_offset}
+use Rattle.tk_vars.specs.Reading.{pieces_of}
+use Rattle.tk_validate.specs.Scoped.{pieces_finding}
+use Rattle.tk_validate.specs.Texts.{text_finding}
+use Rattle.tk_validate.proofs.PiecesFinding.{by_pieces}
+use Rattle.tk_validate.proofs.text_rule.InScopeTextRule.check.Goals as goal
+
+pub returns : goal.returns
+returns c =
+    let pieces = c.as_slice.ensures ∙ c.in_ok-pieces.ensures.pieces in
+    subst (λ finding. Reads finding tt c.check_pieces.result)
+    (ap (λ ps. pieces_finding c.args.self.now.firsts.now c.args.self.now.names.now c.args.whole ps c.args.place.now) pieces
+    ∙ sym (by_pieces c.args.self.now.firsts.now c.args.self.now.names.now c.args.whole c.args.place.now c.args.text.now c.in_ok-pieces.ensures.good))
+    c.check_pieces.ensures

@@ -1,0 +1,194 @@
+ghost use Rattle.std.specs.Prelude.{◌≡◌, ◌++◌, [], false, flat_map, IfOk, OnOk};
+ghost use Rattle.tk_types.specs.Rejected.{Reads};
+ghost use Rattle.tk_types.specs.declared.task.SpaceSpec.{SpaceSpec as S};
+ghost use Rattle.tk_bind.specs.Fits.{result_words, space_words, words_of_space};
+ghost use Rattle.tk_validate.specs.Scoped.{context_of, scope_with};
+ghost use Rattle.tk_validate.specs.Seen.{declared_seen, keys, pipeline_context, task_context};
+ghost use Rattle.tk_validate.specs.Sited.{in_steps};
+ghost use Rattle.tk_validate.specs.Texts.{step_texts, text_finding};
+
+use crate::layers::Layers;
+use crate::name_set::NameSet;
+use crate::outside::add_declared;
+use crate::scope::Names;
+use crate::seen::Seen;
+use crate::sited::check_steps;
+use crate::text_rule::InScope;
+use std::alloc::{AllocError, Global};
+use tk_bind::FirstNamed;
+use tk_fields::Location;
+use tk_types::{List, Rejected, ResultSpec, SpaceSpec, TaskSpec, Text};
+
+/// A name with a text in front of it and one behind.
+fn name_around(alloc: Global, front: &str, name: &Text, end: &str) -> Result<Text, AllocError>
+    ensures { IfOk result (λ text. text ≡ front.now ++ (name.now ++ end.now)) }
+{
+    let mut text = String::from_str(alloc, front)?;
+    text.push_str(name.as_str())?;
+    text.push_str(end)?;
+    Ok(Text::from_string(text))
+}
+
+/// Adds the variables of a workspace.
+fn add_space(alloc: Global, words: &mut List<Text>, name: &Text) -> Result<(), AllocError>
+    ensures { OnOk result (words.new ≡ words.old ++ keys (words_of_space name.now)) }
+{
+    words.push(name_around(alloc, "workspaces.", name, ".path")?)?;
+    words.push(name_around(alloc, "workspaces.", name, ".bound")?)?;
+    words.push(name_around(alloc, "workspaces.", name, ".claim")?)?;
+    Ok(())
+}
+
+/// Adds the variables of each of some workspaces.
+fn add_each(alloc: Global, words: &mut List<Text>, spaces: &[SpaceSpec]) -> Result<(), AllocError>
+    ensures { OnOk result (words.new ≡ words.old ++ flat_map (λ (s : S). keys (words_of_space s.name)) spaces.now) }
+{
+    for space in spaces {
+        add_space(alloc, words, &space.name)?;
+    }
+    Ok(())
+}
+
+/// Adds the variables of workspaces.
+fn add_spaces(alloc: Global, words: &mut List<Text>, spaces: &[SpaceSpec]) -> Result<(), AllocError>
+    ensures { OnOk result (words.new ≡ words.old ++ keys (space_words spaces.now)) }
+{
+    add_each(alloc, words, spaces)
+}
+
+/// The paths of results.
+fn result_paths(alloc: Global, results: &[ResultSpec]) -> Result<List<Text>, AllocError>
+    ensures { IfOk result (λ paths. paths ≡ keys (result_words results.now)) }
+{
+    let mut paths = List::new(alloc);
+    for spec in results {
+        paths.push(name_around(alloc, "results.", &spec.name, ".path")?)?;
+    }
+    Ok(paths)
+}
+
+/// The context variables of a pipeline. The only error is want of memory.
+pub(crate) fn pipeline_context(alloc: Global) -> Result<List<Text>, AllocError>
+    ensures { IfOk result (λ words. words ≡ pipeline_context) }
+{
+    let words = vec![in alloc;
+        Text::from_str(alloc, "context.pipelineRun.name")?,
+        Text::from_str(alloc, "context.pipeline.name")?,
+        Text::from_str(alloc, "context.pipelineTask.retries")?,
+    ]?;
+    Ok(List::from_vec(words))
+}
+
+/// Adds the context variables of a Task.
+fn add_task_context(alloc: Global, words: &mut List<Text>) -> Result<(), AllocError>
+    ensures { OnOk result (words.new ≡ words.old ++ task_context) }
+{
+    words.push(Text::from_str(alloc, "context.taskRun.name")?)?;
+    words.push(Text::from_str(alloc, "context.task.name")?)?;
+    words.push(Text::from_str(alloc, "context.task.retry-count")?)?;
+    Ok(())
+}
+
+/// The context variables of a Task's steps, those of a pipeline too where the Task is inlined in one.
+fn context_of(alloc: Global, is_inlined: bool) -> Result<List<Text>, AllocError>
+    ensures { IfOk result (λ words. words ≡ context_of is_inlined) }
+{
+    let mut words = if is_inlined {
+        pipeline_context(alloc)?
+    } else {
+        List::new(alloc)
+    };
+    add_task_context(alloc, &mut words)?;
+    Ok(words)
+}
+
+/// The words that the texts of a Task's steps may name.
+fn step_words(
+    alloc: Global,
+    is_inlined: bool,
+    spaces: &[SpaceSpec],
+) -> Result<List<Text>, AllocError>
+    ensures { IfOk result (λ words. words ≡ context_of is_inlined ++ keys (space_words spaces.now)) }
+{
+    let mut words = context_of(alloc, is_inlined)?;
+    add_spaces(alloc, &mut words, spaces)?;
+    Ok(words)
+}
+
+/// What the texts of a Task's steps see of its own parameters.
+fn own_seen(alloc: Global, spec: &TaskSpec) -> Result<List<Seen>, AllocError>
+    ensures { IfOk result (λ seen. seen ≡ declared_seen spec.now.params) }
+{
+    let mut seen = List::new(alloc);
+    add_declared(alloc, &mut seen, spec.params.as_slice())?;
+    Ok(seen)
+}
+
+/// Refuses the first text of a Task's steps with which something is wrong, by what they may name.
+fn check_named<'x>(
+    alloc: Global,
+    names: &'x Names<'_, '_, '_, '_, '_, '_>,
+    firsts: &'x NameSet<'_>,
+    spec: &TaskSpec,
+    place: &Location<'_>,
+) -> Result<(), Rejected>
+    ensures { Reads (in_steps (text_finding firsts.now names.now) place.now spec.now) tt result }
+{
+    check_steps(alloc, &InScope { names, firsts }, spec, place)
+}
+
+/// Refuses the first text of a Task's steps with which something is wrong, by what they see and name.
+fn check_indexed<'x>(
+    alloc: Global,
+    seen: &[Seen],
+    words: &[Text],
+    paths: &[Text],
+    middle: &'x FirstNamed<'_, Seen>,
+    outer: &'x FirstNamed<'_, Seen>,
+    spec: &TaskSpec,
+    place: &Location<'_>,
+) -> Result<(), Rejected>
+    ensures { Reads (in_steps (text_finding [] (scope_with (seen.now ++ (middle.now ++ outer.now)) words.now paths.now [] false false)) place.now spec.now) tt result }
+{
+    let inner = FirstNamed::new(alloc, seen)?;
+    let words = FirstNamed::new(alloc, words)?;
+    let paths = FirstNamed::new(alloc, paths)?;
+    let none = NameSet::new(alloc);
+    let layers = Layers::new(&inner, &*middle, &*outer);
+    let names = Names {
+        seen: layers,
+        words: &words,
+        paths: &paths,
+        tasks: &none,
+        results: false,
+        finally_results: false,
+    };
+    check_named(alloc, &names, &none, spec, place)
+}
+
+/// Refuses the first text of a Task's steps with which something is wrong; they see two layers behind the Task's own
+/// parameters, and the context variables of a pipeline where the Task is inlined in one.
+pub(crate) fn check_step_texts<'x>(
+    alloc: Global,
+    spec: &TaskSpec,
+    middle: &'x FirstNamed<'_, Seen>,
+    outer: &'x FirstNamed<'_, Seen>,
+    is_inlined: bool,
+    place: &Location<'_>,
+) -> Result<(), Rejected>
+    ensures { Reads (step_texts (middle.now ++ outer.now) (context_of is_inlined) place.now spec.now) tt result }
+{
+    let seen = own_seen(alloc, spec)?;
+    let words = step_words(alloc, is_inlined, spec.spaces.as_slice())?;
+    let paths = result_paths(alloc, spec.results.as_slice())?;
+    check_indexed(
+        alloc,
+        seen.as_slice(),
+        words.as_slice(),
+        paths.as_slice(),
+        middle,
+        outer,
+        spec,
+        place,
+    )
+}
