@@ -1,8 +1,7 @@
 //! The rules on one object of an input: what is wrong with it first, by rules in a fixed order, each at its places in
-//! reading order. The rules and their order stand in `specs/Validate.antt`, each rule in a file of its own.
-//!
-//! The rules on sizes, on names, on the types of values, on workspaces, on cycles and on a run's timeouts have bodies,
-//! each exact by its rule.
+//! reading order. `validate` goes over them; the rules and their order stand in `specs/Validate.antt`, each rule in a
+//! file of its own, and each has a call of its own that is exact by it. What `validate` passes has a reading in each of
+//! its texts (law `valid_reads`).
 #![tactic(auto)]
 
 mod agreed;
@@ -28,6 +27,7 @@ mod text_rule;
 mod texts;
 mod timeouts;
 mod types;
+mod validating;
 mod workspaces;
 
 pub use conflicts::check_conflicts;
@@ -40,4 +40,5 @@ pub use sizes::check_sizes;
 pub use texts::check_texts;
 pub use timeouts::check_timeouts;
 pub use types::check_types;
+pub use validating::validate;
 pub use workspaces::check_workspaces;
