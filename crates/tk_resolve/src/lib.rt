@@ -5,6 +5,7 @@
 
 mod due;
 mod lookup;
+mod questions;
 mod reason;
 mod spec;
 mod task_run_spec;
