@@ -5,6 +5,7 @@
 
 mod due;
 mod lookup;
+mod misuse;
 mod questions;
 mod reason;
 mod spec;
