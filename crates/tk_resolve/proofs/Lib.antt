@@ -1,4 +1,5 @@
 pub mod Examples
 pub mod Found
+pub mod MatrixLists
 pub mod Readings
 pub mod Zipped

@@ -107,6 +107,27 @@ fn add_matrix<'t>(
     Ok(())
 }
 
+/// The texts of a parameter's value with what is due of each. The only error is want of memory.
+pub(crate) fn param_dues(alloc: Global, param: &Param) -> Result<Vec<(Due, &Text)>, AllocError>
+    ensures { IfOk result (λ texts. seen texts.items ≡ value_dues AnyValue param.now.value) }
+{
+    let mut made = Vec::new(alloc);
+    add_value(&mut made, Due::AnyValue, &param.value)?;
+    Ok(made)
+}
+
+/// The texts of a matrix, where there is one, with what is due of each. The only error is want of memory.
+pub(crate) fn matrix_dues(
+    alloc: Global,
+    matrix: &Option<Matrix>,
+) -> Result<Vec<(Due, &Text)>, AllocError>
+    ensures { IfOk result (λ texts. seen texts.items ≡ matrix_dues matrix.now) }
+{
+    let mut made = Vec::new(alloc);
+    add_matrix(&mut made, matrix)?;
+    Ok(made)
+}
+
 /// Adds the texts of `when` expressions.
 fn add_guards<'t>(made: &mut Vec<(Due, &'t Text)>, guards: &'t [When]) -> Result<(), AllocError>
     ensures { OnOk result (seen made.new.items ≡ seen made.old.items ++ flat_map guard_dues guards.now) }

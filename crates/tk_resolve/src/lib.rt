@@ -3,11 +3,13 @@
 //! become those that hold. A run that can't start has the first reason that holds, and no tasks.
 #![tactic(auto)]
 
+mod beside;
 mod due;
 mod lookup;
 mod misuse;
 mod questions;
 mod reason;
+mod settled;
 mod spec;
 mod task_run_spec;
 mod timeouts;

@@ -40,7 +40,7 @@ fn takes_due(
 }
 
 /// Whether the name is one of these.
-fn is_among(names: &FirstNamed<'_, Text>, name: &str) -> bool
+pub(crate) fn is_among(names: &FirstNamed<'_, Text>, name: &str) -> bool
     ensures { result ≡ is_in names.now name.now }
 {
     names.get(name).is_some()
