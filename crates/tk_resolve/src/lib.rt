@@ -10,6 +10,7 @@ mod misuse;
 mod questions;
 mod reason;
 mod settled;
+mod spaces;
 mod spec;
 mod task_run_spec;
 mod timeouts;
