@@ -15,3 +15,4 @@ mod spec;
 mod task_run_spec;
 mod timeouts;
 mod uses;
+mod values;
