@@ -3,12 +3,14 @@
 //! become those that hold. A run that can't start has the first reason that holds, and no tasks.
 #![tactic(auto)]
 
+mod admission;
 mod beside;
 mod due;
 mod lookup;
 mod misuse;
 mod questions;
 mod reason;
+mod run_reason;
 mod settled;
 mod spaces;
 mod spec;

@@ -1,0 +1,9 @@
+use Rattle.std.proofs.Common.{subst, sym}
+use Rattle.tk_types.specs.declared.task.PipelineTask.{PipelineTask}
+use Rattle.tk_types.specs.declared.task.TaskBody.{TaskBody}
+use Rattle.tk_bind.specs.Readings.{ReadsTaskSpec}
+use Rattle.tk_resolve.proofs.admission.Admission.tasks_lack.Goals as goal
+
+pub task_lacks-requires-clause-body : goal.task_lacks-requires-clause-body
+task_lacks-requires-clause-body c =
+    subst (λ (t : PipelineTask × TaskBody). ReadsTaskSpec t.1.spec) (sym c.declarer-item.is) (c.requires.bodies c.loop-declarer.declarer-index c.declarer-item.result c.loop-declarer-test.true)

@@ -1,0 +1,7 @@
+use Rattle.std.proofs.Common.{ap, ◌∙◌}
+use Rattle.tk_resolve.specs.Due.{seen}
+use Rattle.tk_resolve.proofs.Readings.{seen_read, task_reads}
+use Rattle.tk_resolve.proofs.run_reason.task_misuses.Goals as goal
+
+pub any_misuse-requires : goal.any_misuse-requires
+any_misuse-requires c = seen_read _ _ (ap seen c.as_slice.ensures.value ∙ c.in_ok-texts.ensures) (task_reads c.args.task.now c.requires)
