@@ -1,13 +1,14 @@
 -- Steps of a search by name among earlier objects.
-use Rattle.std.proofs.Common.{◌≡◌, ℕ, ◌+◌, ◌<◌, List, [], ◌∷◌, ◌++◌, Option, Some, None, length, get_or, take, Bool, true, false, cond, bytes_eq, find, option_map, refl, sym, ap, ◌∙◌}
+use Rattle.std.proofs.Common.{◌≡◌, ℕ, List, [], ◌∷◌, ◌++◌, map, Option, Some, None, Bool, true, false, cond, bytes_eq, find, option_map, refl, ap, ◌∙◌}
+use denote.Ref.{Bor}
 use Rattle.std.specs.Prelude.{filter_map}
 use Rattle.std.specs.Option.{option_or}
-use Rattle.std.proofs.lemmas.List.{take_more}
+use Rattle.std.proofs.lemmas.List.{map-append}
 use Rattle.std.proofs.lemmas.List.Elements.{filter_map-append}
 use Rattle.std.proofs.lemmas.List.Folds.{find-append}
 use Rattle.tk_types.specs.declared.object.Item.{Item}
 use Rattle.tk_bind.proofs.FirstFound.{bytes_eq-swap}
-use Rattle.tk_resolve.specs.Lookup.{as_task, named, task_named, value_if}
+use Rattle.tk_resolve.specs.Lookup.{named, value_if}
 
 -- the first value that is there, of two
 mapped_or : {X Y : Type 0} (f : X → Y) (a b : Option X) → option_map f (option_or a b) ≡ option_or (option_map f a) (option_map f b)
@@ -30,9 +31,11 @@ one_entry : {X Y : Type 0} (given : Y → Option (List ℕ × X)) (y : Y) (name 
 one_entry given y name None is = rw is
 one_entry {X} given y name (Some e) is = rw is (mapped_cond (λ (e : List ℕ × X). e.1) (bytes_eq e.0 name) e ∙ ap (λ b. cond b (Some e.1) None) (bytes_eq-swap e.0 name))
 
--- a step of a loop: the object at i
-pub task_more : (items : List Item) (i : ℕ) (item : Item) (name : List ℕ) → i < length items → item ≡ get_or items i item → task_named (take (i + 1) items) name ≡ option_or (task_named (take i items) name) (value_if name (as_task item.object))
-task_more items i item name lt is =
-    ap (λ zs. task_named zs name) (take_more items i item lt ∙ ap (λ y. take i items ++ y ∷ []) (sym is))
-    ∙ (ap (named name) (filter_map-append (λ (x : Item). as_task x.object) (take i items) (item ∷ [])) ∙ (named_append name (filter_map (λ (x : Item). as_task x.object) (take i items)) (filter_map (λ (x : Item). as_task x.object) (item ∷ []))
-    ∙ ap (option_or (task_named (take i items) name)) (one_entry (λ (x : Item). as_task x.object) item name (as_task item.object) refl)))
+-- the first of a name once an object is added
+pub named_more : {X : Type 0} (given : Item → Option (List ℕ × X)) (items more : List (Bor Item)) (item : Bor Item) (name : List ℕ) → more ≡ items ++ item ∷ [] → named name (filter_map given (map (λ i. i.now) more)) ≡ option_or (named name (filter_map given (map (λ i. i.now) items))) (value_if name (given item.now))
+named_more given items more item name is =
+    ap (λ zs. named name (filter_map given (map (λ i. i.now) zs))) is
+    ∙ (ap (λ zs. named name (filter_map given zs)) (map-append (λ (i : Bor Item). i.now) items (item ∷ []))
+    ∙ (ap (named name) (filter_map-append given (map (λ i. i.now) items) (item.now ∷ []))
+    ∙ (named_append name (filter_map given (map (λ i. i.now) items)) (filter_map given (item.now ∷ []))
+    ∙ ap (option_or (named name (filter_map given (map (λ i. i.now) items)))) (one_entry given item.now name (given item.now) refl))))

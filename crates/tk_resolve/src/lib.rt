@@ -18,3 +18,5 @@ mod task_run_spec;
 mod timeouts;
 mod uses;
 mod values;
+
+pub use lookup::Earlier;

@@ -1,114 +1,117 @@
-ghost use Rattle.std.specs.Prelude.{◌≡◌, ℕ, List, IfOk, OnOk, bytes_eq, option_map, option_copied, Some, None, cond};
+ghost use Rattle.std.specs.Prelude.{◌≡◌, [], ◌∷◌, ◌++◌, ℕ, List, OnOk, OnErr, bytes_eq, option_map, option_copied, Some, None, cond};
 ghost use Rattle.std.specs.Option.{option_or};
 ghost use Rattle.std.specs.HashMap.{get_by};
-ghost use Rattle.tk_resolve.specs.Lookup.{as_task, pipeline_named, task_named, value_if};
+ghost use Rattle.tk_resolve.specs.Lookup.{as_pipeline, as_task, pipeline_named, task_named, value_if};
 
 use std::alloc::{AllocError, Global};
 use std::collections::HashMap;
 use std::marker::Model;
 use tk_types::{Item, ItemObject, PipelineSpec, TaskSpec};
 
-/// The Tasks among some objects, found by their names; of equal names the first counts. A contract sees the objects.
+/// The objects that stand earlier in an input, of which the Tasks and the Pipelines are found by their names; of equal
+/// names the first counts. A contract sees the objects, in their order.
 #[derive(Drop)]
-pub(crate) struct Tasks<'a> {
-    items: &'a [Item],
-    found: HashMap<&'a str, &'a TaskSpec>,
+pub struct Earlier<'a> {
+    items: Vec<&'a Item>,
+    tasks: HashMap<&'a str, &'a TaskSpec>,
+    pipelines: HashMap<&'a str, &'a PipelineSpec>,
 }
 
-impl<'a> Model for Tasks<'a> {
-    ghost use Rattle.std.specs.Prelude.{◌≡◌, List as Items, ℕ, bytes_eq, option_map};
+impl<'a> Model for Earlier<'a> {
+    ghost use Rattle.std.specs.Prelude.{◌≡◌, List as Items, ℕ, map, bytes_eq, option_map};
     ghost use Rattle.std.specs.HashMap.{get_by};
     ghost use Rattle.tk_types.specs.declared.object.Item.{Item};
-    ghost use Rattle.tk_resolve.specs.Lookup.{task_named};
+    ghost use Rattle.tk_resolve.specs.Lookup.{pipeline_named, task_named};
 
     ghost Value = { Items Item };
 
-    ghost view = { λ tasks. tasks.items.now };
+    ghost view = { λ earlier. map (λ item. item.now) earlier.items.items };
 
-    ghost invariant = { λ tasks. (name : Items ℕ)
-        → option_map (λ spec. spec.now) (get_by (λ k. bytes_eq name k.now) tasks.found) ≡ task_named tasks.items.now name };
+    ghost invariant = { λ earlier. ((name : Items ℕ)
+        → option_map (λ spec. spec.now) (get_by (λ k. bytes_eq name k.now) earlier.tasks) ≡ task_named (map (λ item. item.now) earlier.items.items) name)
+        × ((name : Items ℕ)
+        → option_map (λ spec. spec.now) (get_by (λ k. bytes_eq name k.now) earlier.pipelines) ≡ pipeline_named (map (λ item. item.now) earlier.items.items) name) };
 }
 
-impl<'a> Tasks<'a> {
-    /// The Tasks among these objects.
-    pub(crate) fn new(alloc: Global, items: &'a [Item]) -> Result<Self, AllocError>
-        ensures { IfOk result (λ tasks. tasks ≡ items.now) }
+impl<'a> Earlier<'a> {
+    /// No object.
+    pub fn new(alloc: Global) -> Self
+        ensures { result ≡ [] }
     {
-        Ok(Tasks {
-            items,
-            found: first_found(alloc, items)?,
-        })
+        Earlier {
+            items: Vec::new(alloc),
+            tasks: HashMap::new(alloc),
+            pipelines: HashMap::new(alloc),
+        }
+    }
+
+    /// Adds the object that stands next. The only error is want of memory, and nothing is added then.
+    pub fn add(&mut self, item: &'a Item) -> Result<(), AllocError>
+        ensures added { OnOk result (self.new ≡ self.old ++ item.now ∷ []) }
+        ensures kept { OnErr result (self.new ≡ self.old) }
+    {
+        self.items.push(item)?;
+        if let Err(error) = add_object(&mut self.tasks, &mut self.pipelines, &item.object) {
+            self.items.pop();
+            return Err(error);
+        }
+        Ok(())
     }
 
     /// The Task of a name.
-    pub(crate) fn get(&self, name: &str) -> Option<&'a TaskSpec>
+    pub(crate) fn task(&self, name: &str) -> Option<&'a TaskSpec>
         ensures { option_copied result ≡ task_named self.now name.now }
     {
-        self.found.get(name).copied()
+        self.tasks.get(name).copied()
+    }
+
+    /// The Pipeline of a name.
+    pub(crate) fn pipeline(&self, name: &str) -> Option<&'a PipelineSpec>
+        ensures { option_copied result ≡ pipeline_named self.now name.now }
+    {
+        self.pipelines.get(name).copied()
     }
 }
 
-/// An object as a Task: its name and its spec.
-fn as_task(item: &Item) -> Option<(&str, &TaskSpec)>
-    ensures { option_map (λ t. (t.0.now, t.1.now)) result ≡ as_task item.now.object }
-{
-    match &item.object {
-        ItemObject::Task { name, spec } => Some((name.as_str(), spec)),
-        _ => None,
-    }
-}
-
-/// Adds a Task, unless its name is there.
-fn add_named<'a>(
-    found: &mut HashMap<&'a str, &'a TaskSpec>,
+/// Adds a spec under a name, unless the name is there.
+fn add_named<'a, T>(
+    found: &mut HashMap<&'a str, &'a T>,
     name: &'a str,
-    spec: &'a TaskSpec,
+    spec: &'a T,
 ) -> Result<(), AllocError>
-    ensures { OnOk result ((wanted : List ℕ)
+    ensures added { OnOk result ((wanted : List ℕ)
         → option_map (λ spec. spec.now) (get_by (λ k. bytes_eq wanted k.now) found.new)
         ≡ option_or (option_map (λ spec. spec.now) (get_by (λ k. bytes_eq wanted k.now) found.old)) (cond (bytes_eq wanted name.now) (Some spec.now) None)) }
+    ensures kept { OnErr result ((wanted : List ℕ)
+        → option_map (λ spec. spec.now) (get_by (λ k. bytes_eq wanted k.now) found.new)
+        ≡ option_map (λ spec. spec.now) (get_by (λ k. bytes_eq wanted k.now) found.old)) }
 {
     found.entry(name)?.or_insert(spec);
     Ok(())
 }
 
-/// Adds an object, if it is a Task of a name that isn't there.
-fn add<'a>(found: &mut HashMap<&'a str, &'a TaskSpec>, item: &'a Item) -> Result<(), AllocError>
-    ensures { OnOk result ((wanted : List ℕ)
-        → option_map (λ spec. spec.now) (get_by (λ k. bytes_eq wanted k.now) found.new)
-        ≡ option_or (option_map (λ spec. spec.now) (get_by (λ k. bytes_eq wanted k.now) found.old)) (value_if wanted (as_task item.now.object))) }
+/// Adds a Task or a Pipeline, unless there is one of its name.
+fn add_object<'a>(
+    tasks: &mut HashMap<&'a str, &'a TaskSpec>,
+    pipelines: &mut HashMap<&'a str, &'a PipelineSpec>,
+    object: &'a ItemObject,
+) -> Result<(), AllocError>
+    ensures task { OnOk result ((wanted : List ℕ)
+        → option_map (λ spec. spec.now) (get_by (λ k. bytes_eq wanted k.now) tasks.new)
+        ≡ option_or (option_map (λ spec. spec.now) (get_by (λ k. bytes_eq wanted k.now) tasks.old)) (value_if wanted (as_task object.now))) }
+    ensures pipeline { OnOk result ((wanted : List ℕ)
+        → option_map (λ spec. spec.now) (get_by (λ k. bytes_eq wanted k.now) pipelines.new)
+        ≡ option_or (option_map (λ spec. spec.now) (get_by (λ k. bytes_eq wanted k.now) pipelines.old)) (value_if wanted (as_pipeline object.now))) }
+    ensures tasks_kept { OnErr result ((wanted : List ℕ)
+        → option_map (λ spec. spec.now) (get_by (λ k. bytes_eq wanted k.now) tasks.new)
+        ≡ option_map (λ spec. spec.now) (get_by (λ k. bytes_eq wanted k.now) tasks.old)) }
+    ensures pipelines_kept { OnErr result ((wanted : List ℕ)
+        → option_map (λ spec. spec.now) (get_by (λ k. bytes_eq wanted k.now) pipelines.new)
+        ≡ option_map (λ spec. spec.now) (get_by (λ k. bytes_eq wanted k.now) pipelines.old)) }
 {
-    match as_task(item) {
-        Some(entry) => add_named(found, entry.0, entry.1),
-        None => Ok(()),
+    match object {
+        ItemObject::Task { name, spec } => add_named(tasks, name.as_str(), spec),
+        ItemObject::Pipeline { name, spec } => add_named(pipelines, name.as_str(), spec),
+        _ => Ok(()),
     }
-}
-
-/// The first Task of each name.
-fn first_found<'a>(
-    alloc: Global,
-    items: &'a [Item],
-) -> Result<HashMap<&'a str, &'a TaskSpec>, AllocError>
-    ensures { IfOk result (λ found. (name : List ℕ)
-        → option_map (λ spec. spec.now) (get_by (λ k. bytes_eq name k.now) found) ≡ task_named items.now name) }
-{
-    let mut found: HashMap<&'a str, &'a TaskSpec> = HashMap::new(alloc);
-    for item in items {
-        add(&mut found, item)?;
-    }
-    Ok(found)
-}
-
-/// The first Pipeline of a name.
-pub(crate) fn pipeline_named<'a>(items: &'a [Item], name: &str) -> Option<&'a PipelineSpec>
-    ensures { option_copied result ≡ pipeline_named items.now name.now }
-{
-    for item in items {
-        if let ItemObject::Pipeline { name: own, spec } = &item.object
-            && own.as_str() == name
-        {
-            return Some(spec);
-        }
-    }
-    None
 }

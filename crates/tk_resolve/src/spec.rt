@@ -1,13 +1,12 @@
 ghost use Rattle.std.specs.Prelude.{◌≡◌, IfOk, option_copied};
 ghost use Rattle.tk_resolve.specs.Run.{pipeline_name, pipeline_of, startable, unstartable};
 
-use crate::lookup::pipeline_named;
+use crate::lookup::Earlier;
 use crate::reason::{Reason, start_of};
 use crate::timeouts::{finally_ms, pipeline_ms, tasks_ms};
 use std::alloc::{AllocError, Global};
 use tk_types::{
-    Item, List, Param, PipelineSource, PipelineSpec, RunObject, RunSpec, Start, TaskBody, Text,
-    TryCopy,
+    List, Param, PipelineSource, PipelineSpec, RunObject, RunSpec, Start, TaskBody, Text, TryCopy,
 };
 
 /// The name of a run's Pipeline: an inlined spec has the run's name.
@@ -22,13 +21,13 @@ pub(crate) fn pipeline_name(run: &RunObject) -> &Text
 
 /// The spec that a run runs: its own, or that of an earlier Pipeline.
 pub(crate) fn pipeline_of<'a>(
-    earlier: &'a [Item],
+    earlier: &Earlier<'a>,
     source: &'a PipelineSource,
 ) -> Option<&'a PipelineSpec>
     ensures { option_copied result ≡ pipeline_of earlier.now source.now }
 {
     match source {
-        PipelineSource::Named(name) => pipeline_named(earlier, name.as_str()),
+        PipelineSource::Named(name) => earlier.pipeline(name.as_str()),
         PipelineSource::Inlined(spec) => Some(spec),
     }
 }

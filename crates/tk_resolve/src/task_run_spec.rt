@@ -1,17 +1,17 @@
 ghost use Rattle.std.specs.Prelude.{◌≡◌, IfOk, option_copied};
 ghost use Rattle.tk_resolve.specs.TaskRun.{no_spec, spec_of, task_name, task_run_with};
 
-use crate::lookup::Tasks;
+use crate::lookup::Earlier;
 use crate::reason::{Reason, start_of};
 use std::alloc::{AllocError, Global};
 use tk_types::{List, TaskBody, TaskRunObject, TaskRunSpec, TaskSource, TaskSpec, Text, TryCopy};
 
 /// The spec that a TaskRun runs: its own, or that of an earlier Task.
-pub(crate) fn spec_of<'a>(tasks: &Tasks<'a>, source: &'a TaskSource) -> Option<&'a TaskSpec>
-    ensures { option_copied result ≡ spec_of tasks.now source.now }
+pub(crate) fn spec_of<'a>(earlier: &Earlier<'a>, source: &'a TaskSource) -> Option<&'a TaskSpec>
+    ensures { option_copied result ≡ spec_of earlier.now source.now }
 {
     match source {
-        TaskSource::Named(name) => tasks.get(name.as_str()),
+        TaskSource::Named(name) => earlier.task(name.as_str()),
         TaskSource::Inlined(spec) => Some(spec),
     }
 }

@@ -2,5 +2,5 @@ use Rattle.std.proofs.Common.{arith}
 use Rattle.std.proofs.lemmas.Grind.{text_groups}
 use Rattle.tk_resolve.proofs.lookup.add_named.Goals as goal
 
-pub returns : goal.returns
-returns c = λ wanted. grind (arith, text_groups)
+pub returns-clause-added : goal.returns-clause-added
+returns-clause-added g c = λ wanted. grind (arith, text_groups)
