@@ -4,3 +4,4 @@ pub mod MatrixLists
 pub mod Misused
 pub mod Readings
 pub mod Zipped
+pub mod Gathered

@@ -5,6 +5,7 @@
 
 mod admission;
 mod beside;
+mod bodies;
 mod due;
 mod lookup;
 mod misuse;
