@@ -2,6 +2,8 @@ pub mod Examples
 pub mod Found
 pub mod MatrixLists
 pub mod Misused
+pub mod Gathered
+pub mod LookedUp
 pub mod Readings
 pub mod Zipped
 pub mod Gathered

@@ -15,9 +15,11 @@ mod run_reason;
 mod settled;
 mod spaces;
 mod spec;
+mod task_run;
 mod task_run_spec;
 mod timeouts;
 mod uses;
 mod values;
 
 pub use lookup::Earlier;
+pub use task_run::resolve_task;
