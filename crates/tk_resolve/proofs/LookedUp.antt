@@ -10,7 +10,7 @@ use Rattle.tk_types.specs.declared.task.TaskSource.{TaskSource}
 use Rattle.tk_types.specs.declared.task.TaskSource.TheVariants.{Named, Inlined}
 use Rattle.tk_types.specs.declared.task.TaskSpec.{TaskSpec}
 use Rattle.tk_bind.specs.Readings.{ReadsObject, ReadsTaskSource, ReadsTaskSpec}
-use Rattle.tk_resolve.specs.Lookup.{as_task, named, task_named}
+use Rattle.tk_resolve.specs.Lookup.{as_task, named}
 use Rattle.tk_resolve.specs.TaskRun.{spec_of}
 
 -- what holds of each entry holds of the first of a name

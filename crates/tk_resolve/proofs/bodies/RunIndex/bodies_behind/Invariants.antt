@@ -1,4 +1,4 @@
-use Rattle.std.proofs.Common.{◌≡◌, ◌++◌, Option, List, map, drop}
+use Rattle.std.proofs.Common.{◌≡◌, ◌++◌, Option, map, drop}
 use Rattle.std.specs.Option.{option_map}
 use Rattle.tk_types.specs.declared.task.PipelineTask.{PipelineTask}
 use Rattle.tk_types.specs.declared.task.TaskBody.{TaskBody}
