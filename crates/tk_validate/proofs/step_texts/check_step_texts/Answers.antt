@@ -1,4 +1,4 @@
-use Rattle.std.proofs.Common.{◌≡◌, ◌∙◌, ◌++◌, ℕ, List, ap, subst, false, []}
+use Rattle.std.proofs.Common.{◌∙◌, ◌++◌, ℕ, List, ap, subst, false, []}
 use Rattle.tk_types.specs.First.{Finding}
 use Rattle.tk_types.specs.Rejected.{Reads}
 use Rattle.tk_bind.specs.Fits.{result_words, space_words}

@@ -1,4 +1,4 @@
-use Rattle.std.proofs.Common.{◌≡◌, ◌∙◌, ◌++◌, ap, subst}
+use Rattle.std.proofs.Common.{◌∙◌, ◌++◌, ap, subst}
 use Rattle.tk_types.specs.Rejected.{Reads}
 use Rattle.tk_validate.specs.Seen.{task_context}
 use Rattle.tk_validate.specs.Texts.{alone_texts, step_texts}

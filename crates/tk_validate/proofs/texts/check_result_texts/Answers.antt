@@ -1,4 +1,4 @@
-use Rattle.std.proofs.Common.{◌≡◌, ◌∙◌, ◌++◌, ap, subst, true, false, []}
+use Rattle.std.proofs.Common.{◌≡◌, ◌∙◌, ◌++◌, ap, subst, true, []}
 use Rattle.tk_types.specs.Rejected.{Reads}
 use Rattle.tk_validate.specs.Scoped.{scope_with}
 use Rattle.tk_validate.specs.Sited.{in_results}

@@ -1,4 +1,4 @@
-use Rattle.std.proofs.Common.{◌≡◌, ◌∙◌, ◌++◌, ap, subst, true, false, []}
+use Rattle.std.proofs.Common.{◌≡◌, ◌∙◌, ◌++◌, ap, subst, true, false}
 use Rattle.tk_types.specs.Rejected.{Reads}
 use Rattle.tk_validate.specs.Parts.{on_each_task}
 use Rattle.tk_validate.specs.Scoped.{scope_with}

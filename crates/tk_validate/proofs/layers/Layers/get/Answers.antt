@@ -1,4 +1,4 @@
-use Rattle.std.proofs.Common.{◌≡◌, ◌++◌, ap, sym, ◌∙◌, find, option_map}
+use Rattle.std.proofs.Common.{◌++◌, ap, sym, ◌∙◌, find, option_map}
 use Rattle.std.specs.Option.{option_or}
 use Rattle.std.proofs.lemmas.List.Folds.{find-append}
 use Rattle.tk_validate.proofs.SeenNames.{map_or}

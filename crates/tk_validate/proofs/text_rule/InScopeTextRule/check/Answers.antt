@@ -1,11 +1,6 @@
-use Rattle.std.proofs.Common.{◌≡◌, ◌∙◌, ap, sym, subst, option_map}
-use Rattle.tk_types.specs.First.{first_of}
+use Rattle.std.proofs.Common.{◌∙◌, ap, sym, subst}
 use Rattle.tk_types.specs.Rejected.{Reads}
-use Rattle.tk_types.specs.Fault.{bad_reference}
-use Rattle.tk_vars.specs.Offset.{bad_offset}
-use Rattle.tk_vars.specs.Reading.{pieces_of}
 use Rattle.tk_validate.specs.Scoped.{pieces_finding}
-use Rattle.tk_validate.specs.Texts.{text_finding}
 use Rattle.tk_validate.proofs.PiecesFinding.{by_pieces}
 use Rattle.tk_validate.proofs.text_rule.InScopeTextRule.check.Goals as goal
 
