@@ -1,9 +1,10 @@
+pub mod BodiesRead
 pub mod Examples
 pub mod Found
-pub mod MatrixLists
-pub mod Misused
 pub mod Gathered
 pub mod LookedUp
+pub mod MatrixLists
+pub mod Misused
 pub mod Readings
+pub mod Started
 pub mod Zipped
-pub mod Gathered

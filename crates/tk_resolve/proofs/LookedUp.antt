@@ -26,7 +26,7 @@ value_holds : {X : Type 0} (P : X → Type 0) (found : Option (List ℕ × X)) (
 value_holds P None y holds is = absurd (let f : ⊥ = cc in f)
 value_holds P (Some e) y holds is = subst P (let s : e.1 ≡ y = cc in s) (holds e refl)
 
-named_holds : {X : Type 0} (P : X → Type 0) (name : List ℕ) (entries : List (List ℕ × X)) (y : X) → All (λ (e : List ℕ × X). P e.1) entries → named name entries ≡ Some y → P y
+pub named_holds : {X : Type 0} (P : X → Type 0) (name : List ℕ) (entries : List (List ℕ × X)) (y : X) → All (λ (e : List ℕ × X). P e.1) entries → named name entries ≡ Some y → P y
 named_holds {X} P name entries y all is =
     let Q : List ℕ × X → Type 0 = λ e. P e.1 in
     let test : List ℕ × X → Bool = λ e. bytes_eq e.0 name in

@@ -11,6 +11,7 @@ mod lookup;
 mod misuse;
 mod questions;
 mod reason;
+mod run;
 mod run_reason;
 mod settled;
 mod spaces;
@@ -22,4 +23,5 @@ mod uses;
 mod values;
 
 pub use lookup::Earlier;
+pub use run::resolve_run;
 pub use task_run::resolve_task;
