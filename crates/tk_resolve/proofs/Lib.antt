@@ -1,10 +1,12 @@
 pub mod BodiesRead
 pub mod Examples
 pub mod Found
+pub mod FoundPipeline
 pub mod Gathered
 pub mod LookedUp
 pub mod MatrixLists
 pub mod Misused
 pub mod Readings
+pub mod ResolvedRuns
 pub mod Started
 pub mod Zipped

@@ -18,7 +18,7 @@ here : {X : Type 0} (P : X → Type 0) (b : Bool) (x y : X) (rest : Option X) �
 here P true x y rest p later is = subst P (let e : x ≡ y = cc in e) p
 here P false x y rest p later is = later is
 
-find_holds : {X : Type 0} (P : X → Type 0) (test : X → Bool) (xs : List X) (y : X) → All P xs → find test xs ≡ Some y → P y
+pub find_holds : {X : Type 0} (P : X → Type 0) (test : X → Bool) (xs : List X) (y : X) → All P xs → find test xs ≡ Some y → P y
 find_holds P test [] y all is = absurd (let f : ⊥ = cc in f)
 find_holds P test (x ∷ xs) y all is = here P (test x) x y (find test xs) (All-head P x xs all) (find_holds P test xs y (All-tail P x xs all)) is
 

@@ -1,4 +1,5 @@
 pub mod Due
+pub mod Laws
 pub mod Lookup
 pub mod Misuse
 pub mod Reasons

@@ -7,6 +7,7 @@ mod admission;
 mod beside;
 mod bodies;
 mod due;
+pub mod laws;
 mod lookup;
 mod misuse;
 mod questions;
