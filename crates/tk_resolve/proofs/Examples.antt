@@ -1,5 +1,5 @@
 -- Which runs can start, and what the resolved ones hold.
-use Rattle.std.proofs.Common.{◌≡◌, ℕ, List, [], ◌∷◌, refl, true, false}
+use Rattle.std.proofs.Common.{◌≡◌, ◌^◌, ℕ, List, [], ◌∷◌, ◌++◌, refl, true, false}
 use Rattle.std.specs.Prelude.{codes, map, Option, Some, None}
 use Rattle.std.specs.List.{range_with_len}
 use Rattle.tk_types.specs.Place.{root}
@@ -27,6 +27,7 @@ use Rattle.tk_types.specs.declared.run.RunSpec.{RunSpec}
 use Rattle.tk_types.specs.declared.run.Start.{Start}
 use Rattle.tk_types.specs.declared.run.Start.TheVariants.{Ready, Unstartable}
 use Rattle.tk_resolve.specs.Lookup.{task_named}
+use Rattle.tk_resolve.specs.Possible.{possible_children, told_count}
 use Rattle.tk_resolve.specs.Run.{resolved_run}
 use Rattle.tk_resolve.specs.TaskRun.{resolved_task_run}
 use Rattle.tk_resolve.specs.Timeouts.{pipeline_ms, tasks_ms, finally_ms}
@@ -330,6 +331,63 @@ bound_workspace :
     map (λ (b : TaskBody). b.bound) (bodies_of (record r { bindings = record { name = codes "c"; claim = Some (codes "v"); sub = codes "s" } ∷ [] }))
     ≡ (record { name = codes "w"; claim = Some (codes "v"); sub = codes "s/d" } ∷ []) ∷ []
 bound_workspace = refl
+
+-- How many children a task may have.
+
+-- each task of the run, and the `finally` tasks behind them
+abbrev children : RunObject → List (Option ℕ)
+children r = let resolved : RunSpec = resolved_run [] r in map (possible_children resolved) (resolved.tasks ++ resolved.finally)
+
+-- a run whose one task has this matrix, with the list `x`
+abbrev by_matrix : List Param → List (List Param) → RunObject
+by_matrix params include =
+    run (pipeline (wanted (codes "x") array None ∷ []) (record (task (codes "a") (Inlined plain) []) { matrix = Some (record { params = params; include = include }) } ∷ [])) (list_param (codes "x") ∷ [])
+
+without_a_matrix : children (run (pipeline [] (one_task (Inlined plain) [])) []) ≡ None ∷ []
+without_a_matrix = refl
+
+by_its_lists : children (by_matrix (list_param (codes "m") ∷ list_param (codes "n") ∷ []) []) ≡ Some 4 ∷ []
+by_its_lists = refl
+
+by_an_empty_list : children (matrixed (Arr [])) ≡ None ∷ Some 0 ∷ []
+by_an_empty_list = refl
+
+-- one entry agrees with a combination, and one with none
+by_entries : children (by_matrix (list_param (codes "m") ∷ []) ((text_param (codes "m") (codes "2") ∷ text_param (codes "k") (codes "v") ∷ []) ∷ (text_param (codes "m") (codes "3") ∷ []) ∷ [])) ≡ Some 3 ∷ []
+by_entries = refl
+
+-- a list of the run's, whole and as an element; and words
+by_a_parameter : children (by_matrix (text_param (codes "m") (codes "$(params.x[*])") ∷ record { name = codes "n"; value = Arr (codes "0" ∷ codes "$(params.x[*])" ∷ []) } ∷ []) []) ≡ Some 6 ∷ []
+by_a_parameter = refl
+
+by_words : children (by_matrix (record { name = codes "m"; value = Arr (codes "$(context.pipelineRun.name)" ∷ codes "$(context.pipeline.name)" ∷ codes "$(context.pipelineTask.retries)" ∷ []) } ∷ []) []) ≡ Some 3 ∷ []
+by_words = refl
+
+-- an entry with the run's name agrees with a combination
+by_a_name : children (by_matrix (record { name = codes "m"; value = Arr (codes "r" ∷ codes "1" ∷ []) } ∷ []) ((text_param (codes "m") (codes "$(context.pipelineRun.name)") ∷ []) ∷ [])) ≡ Some 2 ∷ []
+by_a_name = refl
+
+-- as many as are allowed, where a matrix depends on a result or on a status
+by_a_result : children (matrixed (Str (codes "$(tasks.a.results.l[*])"))) ≡ None ∷ Some 256 ∷ []
+by_a_result = refl
+
+by_a_status :
+    children (run (record (pipeline [] (one_task (Inlined plain) [])) { finally = with_matrix (record { name = codes "m"; value = Arr (codes "$(tasks.a.status)" ∷ []) } ∷ []) (task (codes "f") (Inlined plain) []) ∷ [] }) [])
+    ≡ None ∷ Some 256 ∷ []
+by_a_status = refl
+
+-- more than are allowed, which is told
+more_than_allowed : children (matrixed (many 257)) ≡ None ∷ Some 257 ∷ []
+more_than_allowed = refl
+
+of_a_run_that_stays : children (run (pipeline [] (with_matrix (list_param (codes "m") ∷ []) (task (codes "a") (Named (codes "t")) []) ∷ [])) []) ≡ []
+of_a_run_that_stays = refl
+
+told_as_it_is : told_count 257 ≡ 257
+told_as_it_is = refl
+
+told_as_the_greatest : told_count (2 ^ 70) ≡ 18446744073709551615
+told_as_the_greatest = refl
 
 -- Timeouts.
 

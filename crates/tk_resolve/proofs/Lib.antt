@@ -4,6 +4,7 @@ pub mod Found
 pub mod FoundPipeline
 pub mod Gathered
 pub mod LookedUp
+pub mod MatrixCounts
 pub mod MatrixLists
 pub mod Misused
 pub mod Readings

@@ -1,5 +1,5 @@
 -- What holds of a run that can't start and of one that can holds of each resolved run.
-use Rattle.std.proofs.Common.{◌≡◌, ◌⊎◌, ℕ, List, [], ◌∷◌, Option, Some, None, map, length, suc, All, inl, inr, refl, sym, ap, ◌∙◌}
+use Rattle.std.proofs.Common.{◌≡◌, ◌⊎◌, ℕ, List, [], ◌∷◌, Option, Some, None, map, length, suc, All, inl, inr, refl, sym, ap, ◌∙◌, subst}
 use Rattle.std.proofs.lemmas.List.{length-append, length-map}
 use Rattle.std.proofs.lemmas.List.Elements.{All-append, All-nil}
 use Rattle.tk_types.specs.declared.value.Param.{Param}
@@ -17,7 +17,8 @@ use Rattle.tk_bind.specs.Readings.{ReadsObject, ReadsParam, ReadsPipelineSource,
 use Rattle.tk_resolve.specs.declared.reason.Reason.{Reason}
 use Rattle.tk_resolve.specs.declared.reason.Reason.TheVariants.{CouldntGetPipeline, CouldntGetTask}
 use Rattle.tk_resolve.specs.Laws.{HasItsTasks, HasNoTasks, HasOneBodyEach, ReadsRunSpec}
-use Rattle.tk_resolve.specs.Run.{all_tasks, bodies_of, body_of, first_reason, pipeline_of, resolved_run, run_with_bodies, run_with_pipeline, startable, unstartable}
+use Rattle.tk_resolve.specs.Possible.{task_env}
+use Rattle.tk_resolve.specs.Run.{all_tasks, bodies_of, body_of, env_with, first_reason, pipeline_of, resolved_run, run_with_bodies, run_with_pipeline, startable, task_words, unstartable}
 use Rattle.tk_resolve.specs.TaskRun.{body_with, first_reason as first_task_reason, no_spec, resolved_task_run, spec_of, task_run_with}
 use Rattle.tk_resolve.specs.Values.{all_values}
 use Rattle.tk_resolve.proofs.BodiesRead.{bodies_read, pipeline_reads}
@@ -25,22 +26,34 @@ use Rattle.tk_resolve.proofs.LookedUp.{spec_reads}
 
 -- step by step
 by_reason : (P : RunSpec → Type 0) (run : RunObject) (pipeline : PipelineSpec) (bodies : List TaskBody) (params : List Param) (found : Option Reason)
-    → ((params : List Param) (reason : Reason) → P (unstartable run params reason)) → P (startable run pipeline params bodies)
+    → ((reason : Reason) → P (unstartable run params reason)) → P (startable run pipeline params bodies)
     → P (elim found [ Some reason ↦ unstartable run params reason | None ↦ startable run pipeline params bodies ])
 by_reason P run pipeline bodies params None stays starts = starts
-by_reason P run pipeline bodies params (Some reason) stays starts = stays params reason
+by_reason P run pipeline bodies params (Some reason) stays starts = stays reason
 
-by_bodies : (P : RunSpec → Type 0) (run : RunObject) (pipeline : PipelineSpec) (found : Option (List TaskBody))
-    → ((params : List Param) (reason : Reason) → P (unstartable run params reason)) → ((bodies : List TaskBody) → found ≡ Some bodies → P (run_with_bodies run pipeline bodies))
-    → P (elim found [ None ↦ unstartable run (all_values pipeline.params run.params) CouldntGetTask | Some bodies ↦ run_with_bodies run pipeline bodies ])
-by_bodies P run pipeline None stays starts = stays (all_values pipeline.params run.params) CouldntGetTask
-by_bodies P run pipeline (Some bodies) stays starts = starts bodies refl
+by_bodies : (P : RunSpec → Type 0) (run : RunObject) (pipeline : PipelineSpec) (params : List Param) (found : Option (List TaskBody))
+    → ((reason : Reason) → P (unstartable run params reason)) → ((bodies : List TaskBody) → found ≡ Some bodies → P (run_with_bodies run pipeline bodies))
+    → P (elim found [ None ↦ unstartable run params CouldntGetTask | Some bodies ↦ run_with_bodies run pipeline bodies ])
+by_bodies P run pipeline params None stays starts = stays CouldntGetTask
+by_bodies P run pipeline params (Some bodies) stays starts = starts bodies refl
 
-by_pipeline : (P : RunSpec → Type 0) (earlier : List Item) (run : RunObject) (found : Option PipelineSpec)
-    → ((params : List Param) (reason : Reason) → P (unstartable run params reason)) → ((pipeline : PipelineSpec) → found ≡ Some pipeline → P (run_with_pipeline earlier run pipeline))
-    → P (elim found [ None ↦ unstartable run run.params CouldntGetPipeline | Some pipeline ↦ run_with_pipeline earlier run pipeline ])
-by_pipeline P earlier run None stays starts = stays run.params CouldntGetPipeline
-by_pipeline P earlier run (Some pipeline) stays starts = starts pipeline refl
+-- of a run whose pipeline is found
+by_pipeline : (P : RunSpec → Type 0) (earlier : List Item) (run : RunObject) (pipeline : PipelineSpec)
+    → ((reason : Reason) → P (unstartable run (all_values pipeline.params run.params) reason))
+    → ((bodies : List TaskBody) → bodies_of earlier run pipeline ≡ Some bodies → P (startable run pipeline (all_values pipeline.params run.params) bodies))
+    → P (run_with_pipeline earlier run pipeline)
+by_pipeline P earlier run pipeline stays starts =
+    let params = all_values pipeline.params run.params in
+    by_bodies P run pipeline params (bodies_of earlier run pipeline) stays
+    (λ bodies are. by_reason P run pipeline bodies params (first_reason run pipeline bodies) stays (starts bodies are))
+
+abbrev with_pipeline : List Item → RunObject → Option PipelineSpec → RunSpec
+with_pipeline earlier run found = elim found [ None ↦ unstartable run run.params CouldntGetPipeline | Some pipeline ↦ run_with_pipeline earlier run pipeline ]
+
+by_found : (P : RunSpec → Type 0) (earlier : List Item) (run : RunObject) (found : Option PipelineSpec)
+    → ((reason : Reason) → P (unstartable run run.params reason)) → ((pipeline : PipelineSpec) → found ≡ Some pipeline → P (run_with_pipeline earlier run pipeline)) → P (with_pipeline earlier run found)
+by_found P earlier run None stays starts = stays CouldntGetPipeline
+by_found P earlier run (Some pipeline) stays starts = starts pipeline refl
 
 each_resolved : (P : RunSpec → Type 0) (earlier : List Item) (run : RunObject)
     → ((params : List Param) (reason : Reason) → P (unstartable run params reason))
@@ -48,9 +61,8 @@ each_resolved : (P : RunSpec → Type 0) (earlier : List Item) (run : RunObject)
     → P (startable run pipeline (all_values pipeline.params run.params) bodies))
     → P (resolved_run earlier run)
 each_resolved P earlier run stays starts =
-    by_pipeline P earlier run (pipeline_of earlier run.source) stays
-    (λ pipeline is. by_bodies P run pipeline (bodies_of earlier run pipeline) stays
-    (λ bodies are. by_reason P run pipeline bodies (all_values pipeline.params run.params) (first_reason run pipeline bodies) stays (starts pipeline bodies is are)))
+    by_found P earlier run (pipeline_of earlier run.source) (stays run.params)
+    (λ pipeline is. by_pipeline P earlier run pipeline (stays (all_values pipeline.params run.params)) (λ bodies are. starts pipeline bodies is are))
 
 -- tasks
 abbrev Alike : List Item → RunObject → RunSpec → Type 0
@@ -105,3 +117,10 @@ by_spec run (Some spec) reads = reads spec refl
 
 pub task_run_reads : (earlier : List Item) (run : TaskRunObject) → ReadsTaskSource run.source → All (λ (i : Item). ReadsObject i.object) earlier → ReadsTaskSpec (resolved_task_run earlier run).body.spec
 task_run_reads earlier run own all = by_spec run (spec_of earlier run.source) (λ spec is. spec_reads earlier run.source spec all own is)
+
+-- values
+pub same_values : (earlier : List Item) (run : RunObject) (pipeline : PipelineSpec) (task : PipelineTask) → pipeline_of earlier run.source ≡ Some pipeline
+    → task_env (resolved_run earlier run) task ≡ env_with run pipeline (task_words run task)
+same_values earlier run pipeline task is =
+    let P : RunSpec → Type 0 = λ spec. task_env spec task ≡ env_with run pipeline (task_words run task) in
+    subst (λ (found : Option PipelineSpec). P (with_pipeline earlier run found)) (sym is) (by_pipeline P earlier run pipeline (λ reason. refl) (λ bodies are. refl))

@@ -1,6 +1,5 @@
 -- What holds of resolved runs.
 use Rattle.std.specs.Prelude.{◌≡◌, ◌+◌, ◌⊎◌, ℕ, List, [], ◌++◌, Some, All, Contains, length}
-use Rattle.tk_types.specs.declared.task.PipelineTask.{PipelineTask}
 use Rattle.tk_types.specs.declared.task.TaskBody.{TaskBody}
 use Rattle.tk_types.specs.declared.run.RunSpec.{RunSpec}
 use Rattle.tk_types.specs.declared.object.Item.{Item}

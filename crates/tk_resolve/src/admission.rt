@@ -1,4 +1,4 @@
-ghost use Rattle.std.specs.Prelude.{◌≡◌, ◌||◌, [], All, IfOk, decimal};
+ghost use Rattle.std.specs.Prelude.{◌≡◌, ◌||◌, [], All, IfOk};
 ghost use Rattle.std.specs.List.{list_any};
 ghost use Rattle.tk_types.specs.declared.task.PipelineTask.{PipelineTask as TaskRecord};
 ghost use Rattle.tk_types.specs.declared.task.TaskBody.{TaskBody as BodyRecord};
@@ -14,10 +14,11 @@ use crate::misuse::Declarer;
 use crate::questions::any_lacks;
 use crate::spec::pipeline_name;
 use crate::values::has_missing;
+use crate::words::words_of;
 use std::alloc::{AllocError, Global};
 use std::marker::Model;
 use tk_bind::{EnvIndex, FirstNamed, Lookup};
-use tk_types::{List, Pair, Param, PipelineSpec, PipelineTask, RunObject, Text, TryCopy};
+use tk_types::{List, Pair, Param, PipelineSpec, PipelineTask, RunObject};
 
 /// A run with its Pipeline, whose values are found by their names. A contract sees the run and the Pipeline.
 #[derive(Drop)]
@@ -40,37 +41,11 @@ impl<'a> Model for Admission<'a> {
     ghost invariant = { λ admission. admission.values ≡ env_with admission.run.now admission.pipeline.now [] };
 }
 
-/// A word.
-fn word(alloc: Global, key: &str, value: Text) -> Result<Pair, AllocError>
-    ensures { IfOk result (λ word. word ≡ record { key = key.now; value = value }) }
-{
-    Ok(Pair {
-        key: Text::from_str(alloc, key)?,
-        value,
-    })
-}
-
-/// A number in decimal.
-fn decimal_text(alloc: Global, number: u32) -> Result<Text, AllocError>
-    ensures { IfOk result (λ text. text ≡ decimal number) }
-{
-    let mut text = String::new(alloc);
-    write!(&mut text, "{number}")?;
-    Ok(Text::from_string(text))
-}
-
 /// The words that the texts of a task see at admission.
 fn task_words(alloc: Global, run: &RunObject, task: &PipelineTask) -> Result<List<Pair>, AllocError>
     ensures { IfOk result (λ words. words ≡ task_words run.now task.now) }
 {
-    let pipeline = pipeline_name(run).copy(alloc)?;
-    let retries = decimal_text(alloc, task.retries)?;
-    let words = vec![in alloc;
-        word(alloc, "context.pipelineRun.name", run.name.copy(alloc)?)?,
-        word(alloc, "context.pipeline.name", pipeline)?,
-        word(alloc, "context.pipelineTask.retries", retries)?,
-    ]?;
-    Ok(List::from_vec(words))
+    words_of(alloc, &run.name, pipeline_name(run), task)
 }
 
 /// Whether a text of a task takes of a parameter what isn't there or isn't due.

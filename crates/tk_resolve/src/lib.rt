@@ -1,6 +1,7 @@
 //! Runs with all that they refer to, or why they can't start: Tasks and Pipelines are looked up once among the earlier
 //! objects, parameters take their values, bodies get what they see from outside and their workspaces, and timeouts
-//! become those that hold. A run that can't start has the first reason that holds, and no tasks.
+//! become those that hold. A run that can't start has the first reason that holds, and no tasks. It is told how many
+//! children a task of a resolved run may have.
 #![tactic(auto)]
 
 mod admission;
@@ -10,6 +11,7 @@ mod due;
 pub mod laws;
 mod lookup;
 mod misuse;
+mod possible;
 mod questions;
 mod reason;
 mod run;
@@ -22,7 +24,9 @@ mod task_run_spec;
 mod timeouts;
 mod uses;
 mod values;
+mod words;
 
 pub use lookup::Earlier;
+pub use possible::RunValues;
 pub use run::resolve_run;
 pub use task_run::resolve_task;

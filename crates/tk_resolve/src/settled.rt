@@ -13,8 +13,8 @@ use tk_bind::{Lookup, matrix_in, params_in};
 use tk_matrix::{all, count};
 use tk_types::{List, Matrix, Param, PipelineTask, Text, TryCopy};
 
-/// Whether no value of a task's matrix refers to a result.
-fn is_settled(alloc: Global, task: &PipelineTask) -> Result<bool, AllocError>
+/// Whether no value of a task's matrix refers to a result. The only error is want of memory.
+pub(crate) fn is_settled(alloc: Global, task: &PipelineTask) -> Result<bool, AllocError>
     requires { ReadsPipelineTask task.now }
     ensures { IfOk result (λ settled. settled ≡ is_settled task.now) }
 {
