@@ -4,6 +4,8 @@ mod FirstNone
 mod GoodTexts
 mod InOrder
 mod NameAdded
+mod OwnPipeline
+mod ValidPipeline
 mod ValidReads
 pub mod AgreedKinds
 pub mod PiecesFinding

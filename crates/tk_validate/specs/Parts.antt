@@ -1,5 +1,5 @@
 -- The parts of an object of which the rules speak, with their places.
-use Rattle.std.specs.Prelude.{Bool, true, false, List, [], ◌∷◌, None, codes}
+use Rattle.std.specs.Prelude.{Bool, true, false, List, [], ◌∷◌, Option, Some, None, codes}
 use Rattle.tk_types.specs.declared.value.Param.{Param}
 use Rattle.tk_types.specs.declared.task.PipelineTask.{PipelineTask}
 use Rattle.tk_types.specs.declared.task.TaskSource.{TaskSource}
@@ -26,6 +26,16 @@ abbrev pub on_pipeline : RuleOn PipelineSpec → RuleOn ItemObject
 on_pipeline rule at (Pipeline name spec) = rule at spec
 on_pipeline rule at (PipelineRun run) = on_pipeline_source rule at run.source
 on_pipeline rule at _ = None
+
+-- an object's pipeline: a Pipeline's spec, or the spec that is inlined in a PipelineRun
+abbrev pub inlined_pipeline : PipelineSource → Option PipelineSpec
+inlined_pipeline (InlinedPipeline spec) = Some spec
+inlined_pipeline (NamedPipeline name) = None
+
+abbrev pub own_pipeline : ItemObject → Option PipelineSpec
+own_pipeline (Pipeline name spec) = Some spec
+own_pipeline (PipelineRun run) = inlined_pipeline run.source
+own_pipeline _ = None
 
 -- a rule on a spec that stands in a task or in a TaskRun
 abbrev pub on_inlined : RuleOn TaskSpec → RuleOn TaskSource
