@@ -1,18 +1,25 @@
 -- Where no fault is found, none is found in any part.
-use Rattle.std.proofs.Common.{◌≡◌, ℕ, suc, List, [], ◌∷◌, map, Option, Some, None, option_map, refl, subst}
+use Rattle.std.proofs.Common.{◌≡◌, ℕ, suc, Bool, true, false, List, [], ◌∷◌, map, Option, Some, None, option_map, refl, sym, subst}
 use Rattle.std.specs.Prelude.{All}
 use Rattle.std.specs.Option.{option_or, ForSome}
 use Rattle.std.specs.List.{AllByRecursion}
 use Rattle.std.proofs.lemmas.List.Elements.{All-nil, All-cons}
+use Rattle.std.proofs.lemmas.Option.{none-some}
+use Rattle.tk_types.specs.declared.fault.Fault.{Fault}
 use Rattle.tk_types.specs.Place.{Place, ◌#◌}
-use Rattle.tk_types.specs.First.{Finding, first_of, first_from, first_in, first_if_there, IsNothing}
+use Rattle.tk_types.specs.First.{Finding, first_of, first_from, first_in, first_if_there, refused_if, IsNothing}
+
+-- by a test
+pub not_refused : (test : Bool) (fault : Fault) → refused_if test fault ≡ None → test ≡ false
+not_refused true fault e = absurd (none-some fault (sym e))
+not_refused false fault e = refl
 
 -- of two findings, and of some
-pub first_none : (a b : Finding) → option_or a b ≡ None → a ≡ None
+pub first_none : {X : Type 0} (a b : Option X) → option_or a b ≡ None → a ≡ None
 first_none None b e = refl
 first_none (Some x) b e = e
 
-pub rest_none : (a b : Finding) → option_or a b ≡ None → b ≡ None
+pub rest_none : {X : Type 0} (a b : Option X) → option_or a b ≡ None → b ≡ None
 rest_none None b e = e
 rest_none (Some x) b e = cc
 

@@ -1,10 +1,14 @@
+mod EachText
 mod Examples
 mod FewTasks
 mod FirstNone
 mod GoodTexts
 mod InOrder
+mod KnownParents
+mod KnownTasks
 mod NameAdded
 mod OwnPipeline
+mod TasksDiffer
 mod ValidPipeline
 mod ValidReads
 pub mod AgreedKinds

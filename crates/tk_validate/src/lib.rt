@@ -1,7 +1,8 @@
 //! The rules on one object of an input: what is wrong with it first, by rules in a fixed order, each at its places in
 //! reading order. `validate` goes over them; the rules and their order stand in `specs/Validate.antt`, each rule in a
 //! file of its own, and each has a call of its own that is exact by it. What `validate` passes has a reading in each of
-//! its texts (law `valid_reads`).
+//! its texts (law `valid_reads`); the tasks of its own pipeline are few, have names that differ, and wait for tasks that
+//! there are, in an order (law `valid_pipeline`).
 #![tactic(auto)]
 
 mod agreed;
