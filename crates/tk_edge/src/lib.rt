@@ -7,6 +7,7 @@
 mod clean;
 mod cursor;
 mod memory;
+mod order;
 mod script;
 mod sink;
 mod source;
@@ -16,6 +17,7 @@ mod tests;
 
 pub use clean::{CleanSink, CleanSource};
 pub use memory::{MemSink, MemSource};
+pub use order::Order;
 pub use sink::{Miss, Sink};
 pub use source::{Failed, Source};
 pub use stream::{ReadSource, WriteSink};
