@@ -1,9 +1,10 @@
--- Result files by their bytes, and what an attempt emits.
+-- Result files by their bytes, what an attempt emits, and what is printed.
 use Rattle.std.proofs.Common.{◌≡◌, ℕ, List, [], ◌∷◌, refl, Some, None, Ok, Err}
 use Rattle.std.specs.Prelude.{codes}
 use Rattle.std.specs.Str.{is_utf8, chars}
 use lib.Utf8.{encode}
 use Rattle.serde_json.proofs.OnLiterals.{serde_json_on_literals}
+use Rattle.tk_types.specs.declared.value.Pair.{Pair}
 use Rattle.tk_types.specs.declared.value.Param.{Param}
 use Rattle.tk_types.specs.declared.value.ParamType.{ParamType}
 use Rattle.tk_types.specs.declared.value.ParamType.TheVariants.{Str as string, Arr as array, Obj as object}
@@ -14,6 +15,7 @@ use Rattle.tk_results.specs.declared.refusal.ReadError.TheVariants.{BadText, Bad
 use Rattle.tk_results.specs.declared.refusal.GatherError.TheVariants.{Bad}
 use Rattle.tk_results.specs.Gathered.{gathered}
 use Rattle.tk_results.specs.Read.{result_of}
+use Rattle.tk_results.specs.Written.{json_text}
 
 newline_kept : result_of string (codes "a\n") ≡ Ok (Str (codes "a\n"))
 unfolding is_utf8 chars encode
@@ -85,3 +87,29 @@ first_refused = refl
 declared_twice : gathered (declared (codes "a") string ∷ declared (codes "a") string ∷ []) (file (codes "a") (codes "1") ∷ []) ≡ Ok (text (codes "a") (codes "1") ∷ text (codes "a") (codes "1") ∷ [])
 unfolding is_utf8 chars encode
 declared_twice = refl
+
+-- ---- printed
+
+text_printed : json_text (Str (codes "img-abc123")) ≡ codes "\"img-abc123\""
+unfolding serde_json_on_literals
+text_printed = refl
+
+quote_and_newline : json_text (Str (codes "say \"hi\"\n")) ≡ codes "\"say \\\"hi\\\"\\n\""
+unfolding serde_json_on_literals
+quote_and_newline = refl
+
+list_printed : json_text (Arr (codes "ok-linux" ∷ codes "ok-mac" ∷ [])) ≡ codes "[\"ok-linux\",\"ok-mac\"]"
+unfolding serde_json_on_literals
+list_printed = refl
+
+empty_list : json_text (Arr []) ≡ codes "[]"
+unfolding serde_json_on_literals
+empty_list = refl
+
+abbrev pair : List ℕ → List ℕ → Pair
+pair key value = record { key = key; value = value }
+
+-- the members stand in the order of the keys, and of equal keys the last one counts
+object_printed : json_text (Obj (pair (codes "os") (codes "linux") ∷ pair (codes "arch") (codes "arm") ∷ pair (codes "os") (codes "mac") ∷ [])) ≡ codes "{\"arch\":\"arm\",\"os\":\"mac\"}"
+unfolding serde_json_on_literals
+object_printed = refl

@@ -1,3 +1,4 @@
 pub mod Gathered
 pub mod Read
 pub mod Told
+pub mod Written

@@ -1,7 +1,7 @@
-use crate::{Fetched, GatherError, ReadError, gather, read_result};
+use crate::{Fetched, GatherError, ReadError, gather, json_text, read_result};
 use std::alloc::{AllocError, Global};
 use std::test::Fail;
-use tk_types::{Bytes, List, Param, ParamType, ResultSpec, Text, Value};
+use tk_types::{Bytes, List, Pair, Param, ParamType, ResultSpec, Text, Value};
 
 /// A value as `S`, `A` or `O`, each text between bars.
 fn shown(alloc: Global, value: &Value) -> Result<String, AllocError> {
@@ -66,6 +66,56 @@ fn files_read(rt: HostRuntime) -> Result<(), Fail> {
         (ParamType::Obj, b"[\"a\"]", "BadObject"),
     ] {
         let made = read(alloc, kind, bytes)?;
+        assert_eq!(rt; made.as_str(), want);
+    }
+    Ok(())
+}
+
+/// The texts that are written between spaces.
+fn texts(alloc: Global, words: &str) -> Result<List<Text>, AllocError> {
+    let mut texts = List::new(alloc);
+    for word in words.split_whitespace() {
+        texts.push(Text::from_str(alloc, word)?)?;
+    }
+    Ok(texts)
+}
+
+/// A pair of each key and value.
+fn pairs(alloc: Global, members: &[(&str, &str)]) -> Result<List<Pair>, AllocError> {
+    let mut pairs = List::new(alloc);
+    for (key, value) in members {
+        pairs.push(Pair {
+            key: Text::from_str(alloc, *key)?,
+            value: Text::from_str(alloc, *value)?,
+        })?;
+    }
+    Ok(pairs)
+}
+
+#[test]
+fn values_print(rt: HostRuntime) -> Result<(), Fail> {
+    let alloc = rt.alloc();
+    let members = [("os", "linux"), ("arch", "arm"), ("os", "mac")];
+    for (value, want) in [
+        (
+            Value::Str(Text::from_str(alloc, "img-abc123")?),
+            "\"img-abc123\"",
+        ),
+        (
+            Value::Str(Text::from_str(alloc, "say \"hi\"\n")?),
+            "\"say \\\"hi\\\"\\n\"",
+        ),
+        (
+            Value::Arr(texts(alloc, "ok-linux ok-mac")?),
+            "[\"ok-linux\",\"ok-mac\"]",
+        ),
+        (Value::Arr(texts(alloc, "")?), "[]"),
+        (
+            Value::Obj(pairs(alloc, members.as_slice())?),
+            "{\"arch\":\"arm\",\"os\":\"mac\"}",
+        ),
+    ] {
+        let made = json_text(alloc, &value)?;
         assert_eq!(rt; made.as_str(), want);
     }
     Ok(())
