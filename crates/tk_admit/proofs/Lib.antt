@@ -1,0 +1,12 @@
+pub mod ChildAdded
+pub mod Children
+pub mod FirstRun
+pub mod Nothing
+pub mod Owners
+pub mod Parts
+pub mod Refusals
+pub mod Sound
+pub mod Steps
+pub mod TakenRuns
+pub mod Texts
+pub mod Told

@@ -1,0 +1,33 @@
+use Rattle.std.proofs.Common.{◌≡◌, Some, None, sym, ap, ◌∙◌, subst}
+use Rattle.std.specs.Prelude.{option_and_then}
+use Rattle.std.proofs.lemmas.Result.{err_from_is_err_and}
+use Rattle.tk_types.specs.Rejected.{IsRefusal}
+use Rattle.tk_admit.specs.Objects.{matrix_finding, same_name_finding}
+use Rattle.tk_admit.specs.Taken.{resolved, taken_of}
+use Rattle.tk_admit.specs.declared.taken.Taken.{Taken}
+use Rattle.tk_admit.proofs.Steps.{none_first, refused_first}
+use Rattle.tk_admit.proofs.TakenRuns.{taken_matrix, taken_spec}
+use Rattle.tk_admit.proofs.objects.take.Goals as goal
+
+pub check_taken-requires : goal.check_taken-requires
+check_taken-requires c =
+    let before = c.args.before.now in
+    let item = c.args.item.now in
+    λ run is.
+    let found : taken_of (before, item) ≡ Some run = ap (λ items. taken_of (items, item)) (sym c.requires.same) ∙ (sym c.in_ok-run.ensures ∙ is) in
+    c.taken_is_sound.ensures before item run.spec c.requires.valid c.requires.own (taken_spec before item run found)
+
+pub returns-in_err-check_taken-clause-found : goal.returns-in_err-check_taken-clause-found
+returns-in_err-check_taken-clause-found c =
+    let before = c.args.before.now in
+    let item = c.args.item.now in
+    let error = c.in_err-check_taken.field-0.0 in
+    let same = same_name_finding before item in
+    let matrix = option_and_then (matrix_finding item.place) (resolved before item.object) in
+    let is : option_and_then (λ (t : Taken). matrix_finding t.place t.spec) c.in_ok-run.run' ≡ matrix
+    = ap (option_and_then (λ (t : Taken). matrix_finding t.place t.spec)) (c.in_ok-run.ensures ∙ ap (λ items. taken_of (items, item)) c.requires.same) ∙ taken_matrix before item in
+    let result = c.from_residual-in_err-check_taken in
+    let p = err_from_is_err_and result.result result.ensures.1 in
+    rw (p.1, p.2)
+    (subst (λ found. IsRefusal found error) (none_first same _ c.in_ok-check_name.ensures.0)
+    (refused_first matrix None error (subst (λ found. IsRefusal found error) is c.in_err-check_taken.ensures.found)))
