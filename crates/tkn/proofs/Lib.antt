@@ -1,9 +1,3 @@
-pub mod Accepting
-pub mod Checked
-pub mod Elements
 pub mod Endings
-pub mod FormFacts
 pub mod Fronts
-pub mod KeysOf
 pub mod Lines
-pub mod NoReference

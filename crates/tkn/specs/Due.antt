@@ -1,23 +1,30 @@
--- What `decide` prints, and the status with which it ends.
-use Rattle.std.specs.Prelude.{ℕ, nat_lt, if◌then◌else◌, List, [], ◌++◌, length, map, Option, Some, None, Result, Ok, Err, codes, flat_map}
-use Rattle.std.specs.List.{range_with_len}
-use Rattle.std.specs.Str.{is_utf8}
-use Rattle.serde_json.specs.Data.{Data}
-use Rattle.serde_json.specs.Read.{read}
+-- What a command prints for an input, and the status with which it ends.
+use Rattle.std.specs.Prelude.{◌≡◌, ℕ, if◌then◌else◌, List, [], ◌++◌, Option, Some, None, codes, decimal, flat_map}
+use Rattle.std.specs.List.{enumerate_from}
 use Rattle.tk_types.specs.declared.fault.Fault.{Fault}
+use Rattle.tk_types.specs.declared.rejected.Rejected.{Rejected}
+use Rattle.tk_types.specs.declared.rejected.Rejected.TheVariants.{Memory, Fault as FaultFound}
 use Rattle.tk_types.specs.declared.run.Facts.{Facts}
+use Rattle.tk_types.specs.declared.task.PipelineTask.{PipelineTask}
+use Rattle.tk_types.specs.declared.value.Param.{Param}
 use Rattle.tk_types.specs.declared.verdict.Condition.{Condition}
 use Rattle.tk_types.specs.declared.verdict.Verdict.{Verdict}
 use Rattle.tk_types.specs.declared.verdict.Verdict.TheVariants.{Ran, Skipped, Runs, Ready, Waits, Wrong}
-use Rattle.tk_types.specs.Fault.{bad_json, fault_line, too_long}
-use Rattle.tk_graph.specs.Cycle.{name_at}
-use Rattle.tk_verdict.specs.Condition.{condition_of}
+use Rattle.tk_types.specs.Fault.{fault_line}
+use Rattle.tk_types.specs.First.{Finding}
+use Rattle.tk_manifest.specs.declared.kinds.KindSet.{KindSet}
+use Rattle.tk_manifest.specs.declared.kinds.KindSet.TheVariants.{Four, WithOutcomes}
+use Rattle.tk_results.specs.Written.{json_text}
+use Rattle.tk_verdict.specs.Condition.{condition_of, results_of}
+use Rattle.tk_verdict.specs.Facts.{all_tasks}
 use Rattle.tk_verdict.specs.Labels.{labels_of}
 use Rattle.tk_verdict.specs.Texts.{skip_text}
 use Rattle.tk_verdict.specs.Verdict.{label_at}
+use Rattle.tk_journal.specs.declared.admitted.Admitted.{Admitted}
+use Rattle.tk_admit.specs.Admit.{admitted, input_fault}
 use Rattle.tkn.specs.declared.due.Due.{Due}
-use Rattle.tkn.specs.Form.{input_of}
-use Rattle.tkn.specs.Judged.{judged}
+use Rattle.tkn.specs.declared.command.Command.{Command}
+use Rattle.tkn.specs.declared.command.Command.TheVariants.{Check, Decide}
 
 -- the line of a task: its label, its name, and why it is skipped
 abbrev pub label_word : Verdict → List ℕ
@@ -43,13 +50,21 @@ condition_words (Some condition) = (if condition.holds then codes "True " else c
 abbrev pub run_line : List ℕ → Option Condition → List ℕ
 run_line name condition = codes "pipelinerun " ++ name ++ codes " " ++ condition_words condition ++ codes "\n"
 
--- a line for each task, in order
-abbrev pub task_line_at : Facts → List Verdict → ℕ → List ℕ
-task_line_at facts labels place = label_line (name_at facts.spec.tasks place) (label_at labels place)
+-- a line for each task with the label of its place, in order
+abbrev pub task_line : List Verdict → ℕ × PipelineTask → List ℕ
+task_line labels (place, task) = label_line task.name (label_at labels place)
+
+-- a line for each result, once there is a condition
+abbrev pub result_line : Param → List ℕ
+result_line result = codes "  result " ++ result.name ++ codes " " ++ json_text result.value ++ codes "\n"
+
+abbrev pub result_lines : List Param → Option Condition → List ℕ
+result_lines results None = []
+result_lines results (Some condition) = flat_map result_line results
 
 abbrev pub decided_text : Facts → List Verdict → Option Condition → List ℕ
 decided_text facts labels condition =
-    run_line facts.spec.name condition ++ flat_map (λ line. line) (map (task_line_at facts labels) (range_with_len 0 (length facts.spec.tasks)))
+    run_line facts.spec.name condition ++ flat_map (task_line labels) (enumerate_from 0 (all_tasks facts)) ++ result_lines (results_of facts) condition
 
 -- 0 where the condition is true, 1 where it is false, and 7 where there is none
 abbrev pub status_of : Option Condition → ℕ
@@ -62,25 +77,41 @@ decided_by facts labels condition = record { status = status_of condition; text 
 abbrev pub decided : Facts → Due
 decided facts = decided_by facts (labels_of facts) (condition_of facts (labels_of facts))
 
+-- `decide` speaks of the facts of a run, which admission gives it; without facts there is nothing to say
+abbrev pub decided_if_there : Option Facts → Due
+decided_if_there (Some facts) = decided facts
+decided_if_there None = record { status = 7; text = [] }
+
+-- `check` tells the number of objects
+abbrev pub checked : ℕ → Due
+checked objects = record { status = 0; text = codes "ok " ++ decimal objects ++ codes "\n" }
+
 -- a fault's line, with status 3
 abbrev pub rejected : Fault → Due
 rejected fault = record { status = 3; text = fault_line fault }
 
-abbrev pub answer : Result Facts Fault → Due
-answer (Ok facts) = decided facts
-answer (Err fault) = rejected fault
+-- this is due where the input is refused; where memory ran out nothing is
+abbrev pub IsRefusalDue : Rejected → Due → Type 0
+IsRefusalDue Memory due = ⊥
+IsRefusalDue (FaultFound fault) due = due ≡ rejected fault
 
--- the JSON value that the bytes are, if they are a text
-abbrev pub json_of : List ℕ → Option Data
-json_of bytes = if is_utf8 bytes then read bytes else None
+-- the kinds of objects that a command reads
+abbrev pub kinds_of : Command → KindSet
+kinds_of Check = Four
+kinds_of Decide = WithOutcomes
 
-abbrev pub json_answer : Option Data → Result Facts Fault
-json_answer None = Err bad_json
-json_answer (Some d) = judged (input_of d)
+-- the folder below which a run's files would stand; these commands start none
+abbrev pub root : List ℕ
+root = codes "/work"
 
-abbrev pub longest_input : ℕ
-longest_input = 8388608
+-- what is due for what is admitted, where no fault is found, and for the bytes of an input
+abbrev pub accepted : Command → Admitted → Due
+accepted Check found = checked found.objects
+accepted Decide found = decided_if_there found.outcomes
 
--- what is due for the bytes of an input
-abbrev pub due_of : List ℕ → Due
-due_of bytes = if nat_lt longest_input (length bytes) then rejected too_long else answer (json_answer (json_of bytes))
+abbrev pub answered : Command → Admitted → Finding → Due
+answered command found (Some fault) = rejected fault
+answered command found None = accepted command found
+
+abbrev pub due_of : Command → List ℕ → Due
+due_of command bytes = answered command (admitted (kinds_of command) 0 root bytes) (input_fault (kinds_of command) 0 bytes)

@@ -1,11 +1,14 @@
-ghost use Rattle.std.specs.Prelude.{◌≡◌, ◌++◌, flat_map, length, map, string_bytes, IfOk, OnOk};
-ghost use Rattle.std.specs.List.{range_with_len};
-ghost use Rattle.tk_verdict.specs.Verdict.{label_at as label_of_place};
+ghost use Rattle.std.specs.Prelude.{◌≡◌, ◌<◌, ◌^◌, ◌++◌, None, flat_map, string_bytes, IfOk, OnOk};
+ghost use Rattle.std.specs.List.{enumerate_from};
+ghost use Rattle.tk_verdict.specs.Condition.{results_of};
+ghost use Rattle.tk_verdict.specs.Facts.{all_tasks};
 ghost use Rattle.tk_verdict.specs.Texts.{skip_text as text_of_skip, stop_text as text_of_stop};
-ghost use Rattle.tkn.specs.Due.{condition_words, decided_by, label_line, label_reason, label_word as word_of_label, rejected as due_rejected, run_line, status_of as status_of_condition, task_line_at};
+ghost use Rattle.tk_verdict.specs.Verdict.{label_at as label_of_place};
+ghost use Rattle.tkn.specs.Due.{checked as checked_objects, condition_words, decided_by, decided_if_there, label_line, label_reason, label_word as word_of_label, rejected as due_rejected, result_line, run_line, status_of as status_of_condition, task_line};
 
 use std::alloc::{AllocError, Global};
-use tk_types::{Condition, Facts, Fault, SkipReason, Stop, Text, Verdict};
+use tk_results::json_text;
+use tk_types::{Condition, Facts, Fault, Param, PipelineTask, SkipReason, Stop, Text, Verdict};
 
 /// What a command prints, and the status with which it ends.
 #[derive(Drop)]
@@ -134,30 +137,93 @@ fn label_at(labels: &[Verdict], place: usize) -> Verdict
     labels.get(place).copied().unwrap_or(Verdict::Waits)
 }
 
-/// Writes a line for each task behind `text`.
-fn write_labels(text: &mut String, facts: &Facts, labels: &[Verdict]) -> Result<(), AllocError>
-    ensures { OnOk result (string_bytes text.new ≡ string_bytes text.old ++ flat_map (λ line. line) (map (task_line_at facts.now labels.now) (range_with_len 0 (length facts.now.spec.tasks)))) }
+/// Writes a line for each task with the label of its place behind `text`; the first task has this place.
+fn write_labels(
+    text: &mut String,
+    start: usize,
+    tasks: &[PipelineTask],
+    labels: &[Verdict],
+) -> Result<(), AllocError>
+    requires { start < 2 ^ 63 }
+    ensures { OnOk result (string_bytes text.new ≡ string_bytes text.old ++ flat_map (task_line labels.now) (enumerate_from start tasks.now)) }
 {
-    let tasks = facts.spec.tasks.as_slice();
-    for place in 0..tasks.len() {
-        write_label(text, tasks[place].name.as_str(), label_at(labels, place))?;
+    for (index, task) in tasks.iter().enumerate() {
+        write_label(text, task.name.as_str(), label_at(labels, start + index))?;
     }
     Ok(())
 }
 
-/// What is due for a run with these labels and this condition.
+/// Writes the lines of a run's tasks behind `text`, those of `finally` last.
+fn write_tasks(text: &mut String, facts: &Facts, labels: &[Verdict]) -> Result<(), AllocError>
+    ensures { OnOk result (string_bytes text.new ≡ string_bytes text.old ++ flat_map (task_line labels.now) (enumerate_from 0 (all_tasks facts.now))) }
+{
+    let tasks = facts.spec.tasks.as_slice();
+    write_labels(text, 0, tasks, labels)?;
+    write_labels(text, tasks.len(), facts.spec.finally.as_slice(), labels)
+}
+
+/// Writes the line of a result behind `text`.
+fn write_result(alloc: Global, text: &mut String, param: &Param) -> Result<(), AllocError>
+    ensures { OnOk result (string_bytes text.new ≡ string_bytes text.old ++ result_line param.now) }
+{
+    text.push_str("  result ")?;
+    text.push_str(param.name.as_str())?;
+    text.push_str(" ")?;
+    text.push_str(json_text(alloc, &param.value)?.as_str())?;
+    text.push_str("\n")
+}
+
+/// Writes a line for each result behind `text`.
+fn write_results(alloc: Global, text: &mut String, results: &[Param]) -> Result<(), AllocError>
+    ensures { OnOk result (string_bytes text.new ≡ string_bytes text.old ++ flat_map result_line results.now) }
+{
+    for result in results {
+        write_result(alloc, text, result)?;
+    }
+    Ok(())
+}
+
+/// What is due for a run with these labels, this condition and these results.
 pub fn decided(
     alloc: Global,
     facts: &Facts,
     labels: &[Verdict],
     condition: &Option<Condition>,
+    results: &[Param],
 ) -> Result<Due, AllocError>
+    requires { results.now ≡ results_of facts.now }
     ensures { IfOk result (λ due. due ≡ decided_by facts.now labels.now condition.now) }
 {
     let mut text = run_text(alloc, facts.spec.name.as_str(), condition)?;
-    write_labels(&mut text, facts, labels)?;
+    write_tasks(&mut text, facts, labels)?;
+    if condition.is_some() {
+        write_results(alloc, &mut text, results)?;
+    }
     Ok(Due {
         status: status_of(condition),
+        text: Text::from_string(text),
+    })
+}
+
+/// What is due where there is nothing to decide.
+pub fn nothing(alloc: Global) -> Due
+    ensures { result ≡ decided_if_there None }
+{
+    Due {
+        status: 7,
+        text: Text::new(alloc),
+    }
+}
+
+/// What is due for an input with so many objects.
+pub fn checked(alloc: Global, objects: u64) -> Result<Due, AllocError>
+    ensures { IfOk result (λ due. due ≡ checked_objects objects) }
+{
+    let mut text = String::from_str(alloc, "ok ")?;
+    text.push_str(objects.to_string(alloc)?.as_str())?;
+    text.push_str("\n")?;
+    Ok(Due {
+        status: 0,
         text: Text::from_string(text),
     })
 }

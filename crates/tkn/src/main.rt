@@ -1,14 +1,13 @@
 //! The program `tkn`. `plain` carries out its words over any source and any sink, and its clauses say what a caller
-//! sees; `main` gives it the words, standard input and standard output. What is due for the bytes of an input is
-//! defined in `specs/Due.antt`: the JSON value that they are, the first form of `decide`'s input over it
-//! (`specs/Form.antt`), the facts that the form says or its fault (`specs/Judged.antt`), and the lines printed.
+//! sees; `main` gives it the words, standard input and standard output, and says on standard error what is wrong where a
+//! status tells no more. What is due for the bytes of an input is defined in `specs/Due.antt`, over what `tk_admit`
+//! admits of them: the line of the first fault, the number of objects, or the lines of a run that is decided.
 #![tactic(auto)]
 
-mod decide;
+mod answer;
+mod command;
 mod due;
-mod form;
 mod input;
-mod judged;
 mod output;
 mod plain;
 #[cfg(test)]
@@ -24,10 +23,14 @@ use tk_types::{List, Text};
 /// What standard error says of a status, if anything.
 fn message(status: u8) -> Option<&'static str> {
     match status {
-        2 => Some("usage: tkn decide < INPUT.json"),
-        4 => Some("tkn: standard input can't be read"),
-        5 => Some("tkn: standard output can't be written"),
-        6 => Some("tkn: there is not enough memory"),
+        2 => Some(
+            "tkn: no such command; usage: tkn check < INPUT.json, or tkn decide < INPUT.json",
+        ),
+        4 => Some("tkn: standard input can't be read; give the input by < INPUT.json or by a pipe"),
+        5 => Some(
+            "tkn: standard output can't be written, so the text is cut; free the disk or keep the pipe open",
+        ),
+        6 => Some("tkn: there is not enough memory for this input; split it or give more memory"),
         _ => None,
     }
 }
