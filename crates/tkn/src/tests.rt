@@ -74,6 +74,25 @@ fn run(alloc: Global, pipeline: &str) -> Result<Bytes, AllocError> {
     quoted(alloc, text.as_str())
 }
 
+/// A list of these objects, but for empty ones, and of one more.
+fn list(alloc: Global, items: &[&str], last: &str) -> Result<Bytes, AllocError> {
+    let mut text = String::from_str(alloc, "{'apiVersion': 'v1', 'kind': 'List', 'items': [")?;
+    let mut between = "";
+    for item in items {
+        if !item.is_empty() {
+            text.push_str(between)?;
+            text.push_str(item)?;
+            between = ", ";
+        }
+    }
+    if !last.is_empty() {
+        text.push_str(between)?;
+        text.push_str(last)?;
+    }
+    text.push_str("]}")?;
+    quoted(alloc, text.as_str())
+}
+
 fn bytes(alloc: Global, text: &str) -> Result<Bytes, AllocError> {
     Ok(Bytes::from_vec(Vec::from_slice(alloc, text.as_bytes())?))
 }
@@ -313,6 +332,62 @@ fn results_are_printed(rt: HostRuntime) -> Result<(), Fail> {
     Ok(())
 }
 
+const RUN: &str =
+    "{'apiVersion': 'tekton.dev/v1', 'kind': 'PipelineRun', 'metadata': {'name': 'r'}, 'spec': {'pipelineRef': {'name': 'p'}}}";
+
+const OTHER_RUN: &str =
+    "{'apiVersion': 'tekton.dev/v1', 'kind': 'PipelineRun', 'metadata': {'name': 'q'}, 'spec': {'pipelineRef': {'name': 'p'}}}";
+
+const OUTCOMES: &str =
+    "{'apiVersion': 'tkn.local/v1', 'kind': 'Outcomes', 'metadata': {'name': 's'}, 'spec': {}}";
+
+const OTHER_OUTCOMES: &str =
+    "{'apiVersion': 'tkn.local/v1', 'kind': 'Outcomes', 'metadata': {'name': 't'}, 'spec': {}}";
+
+const CHILD: &str =
+    "{'apiVersion': 'tkn.local/v1', 'kind': 'Outcomes', 'metadata': {'name': 's'}, 'spec': {'children': [{'task': 'a', 'index': 0, 'outcome': 'Lost'}]}}";
+
+#[test]
+fn one_run_and_its_outcomes_are_decided(rt: HostRuntime) -> Result<(), Fail> {
+    let alloc = rt.alloc();
+    for (items, status, text) in [
+        (["", ""], 3, "rejected 5 MissingField $\n"),
+        ([RUN, ""], 3, "rejected 5 MissingField $\n"),
+        (["", OUTCOMES], 3, "rejected 5 MissingField $\n"),
+        ([RUN, OTHER_RUN], 3, "rejected 5 MissingField $\n"),
+        (
+            [RUN, CHILD],
+            3,
+            "rejected 12 UnknownTask $.items[1].spec.children[0].task a\n",
+        ),
+        (
+            [RUN, OUTCOMES],
+            1,
+            "pipelinerun r False CouldntGetPipeline\n",
+        ),
+        (
+            [OUTCOMES, RUN],
+            1,
+            "pipelinerun r False CouldntGetPipeline\n",
+        ),
+        ([RUN, RUN], 3, "rejected 9 Duplicate $.items[1] r\n"),
+    ] {
+        let (given, sink) = decided(alloc, list(alloc, &items, "")?)?;
+        assert_eq!(rt; sink.bytes(), text.as_bytes());
+        assert_eq!(rt; given, status);
+    }
+    for (last, text) in [
+        (OTHER_RUN, "rejected 9 Duplicate $ q\n"),
+        (OTHER_OUTCOMES, "rejected 9 Duplicate $ t\n"),
+        (OUTCOMES, "rejected 9 Duplicate $.items[2] s\n"),
+    ] {
+        let (given, sink) = decided(alloc, list(alloc, &[RUN, OUTCOMES], last)?)?;
+        assert_eq!(rt; sink.bytes(), text.as_bytes());
+        assert_eq!(rt; given, 3);
+    }
+    Ok(())
+}
+
 #[test]
 fn inputs_are_checked(rt: HostRuntime) -> Result<(), Fail> {
     let alloc = rt.alloc();
@@ -498,16 +573,20 @@ fn an_input_may_not_be_too_long(rt: HostRuntime) -> Result<(), Fail> {
 #[test]
 fn what_fails_outside_is_told(rt: HostRuntime) -> Result<(), Fail> {
     let alloc = rt.alloc();
-    let words = words(alloc, "decide")?;
-    let mut source = MemSource::new(bytes(alloc, "{")?, List::from_vec(vec![in alloc; 0]?));
-    let mut sink = CleanSink::new(alloc);
-    let ended = plain(alloc, words.as_slice(), &mut source, &mut sink);
-    assert_eq!(rt; ended.status, 4);
-    assert_eq!(rt; sink.bytes().len(), 0);
-    let mut sink = MemSink::new(alloc, List::from_vec(vec![in alloc; 0]?));
-    let mut source = CleanSource::new(bytes(alloc, "{")?);
-    let ended = plain(alloc, words.as_slice(), &mut source, &mut sink);
-    assert_eq!(rt; ended.status, 5);
-    assert_eq!(rt; sink.bytes().len(), 0);
+    let words = words(alloc, "check")?;
+    for (call, status, text) in [(0, 4, ""), (1, 4, ""), (2, 3, "rejected 1 BadJson\n")] {
+        let mut source = MemSource::new(bytes(alloc, "{")?, List::from_vec(vec![in alloc; call]?));
+        let mut sink = CleanSink::new(alloc);
+        let ended = plain(alloc, words.as_slice(), &mut source, &mut sink);
+        assert_eq!(rt; ended.status, status);
+        assert_eq!(rt; sink.bytes(), text.as_bytes());
+    }
+    for (call, status, text) in [(0, 5, ""), (1, 3, "rejected 1 BadJson\n")] {
+        let mut sink = MemSink::new(alloc, List::from_vec(vec![in alloc; call]?));
+        let mut source = CleanSource::new(bytes(alloc, "{")?);
+        let ended = plain(alloc, words.as_slice(), &mut source, &mut sink);
+        assert_eq!(rt; ended.status, status);
+        assert_eq!(rt; sink.bytes(), text.as_bytes());
+    }
     Ok(())
 }
