@@ -511,6 +511,13 @@ fn pipelines_are_checked(rt: HostRuntime) -> Result<(), Fail> {
             3,
             "rejected 21 TooLarge $ 200000 363529\n",
         ),
+        (
+            "{'tasks': [{'name': 'a', 'taskSpec': {'steps': [{'command': ['true']}]},
+                'matrix': {'params': [{'name': 'x', 'value': ['0', '1', '2', '3', '4', '5', '6', '7', '8', '9', '10', '11', '12', '13', '14', '15']},
+                    {'name': 'y', 'value': ['0', '1', '2', '3', '4', '5', '6', '7', '8', '9', '10', '11', '12', '13', '14', '15', '16']}]}}]}",
+            3,
+            "rejected 21 TooLarge $ 256 272\n",
+        ),
     ] {
         let (given, sink) = answered(alloc, "check", run(alloc, pipeline)?)?;
         assert_eq!(rt; sink.bytes(), line.as_bytes());
