@@ -529,11 +529,13 @@ fn pipelines_are_checked(rt: HostRuntime) -> Result<(), Fail> {
 /// A text in which `@` stands for a spec of one step.
 fn with_specs(alloc: Global, text: &str) -> Result<String, AllocError> {
     let mut made = String::new(alloc);
-    let mut between = "";
+    let mut is_first = true;
     for part in text.split('@') {
-        made.push_str(between)?;
+        if !is_first {
+            made.push_str("'taskSpec': {'steps': [{'command': ['true']}]}")?;
+        }
+        is_first = false;
         made.push_str(part)?;
-        between = "'taskSpec': {'steps': [{'command': ['true']}]}";
     }
     Ok(made)
 }
