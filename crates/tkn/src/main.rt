@@ -11,6 +11,8 @@ mod input;
 mod output;
 mod plain;
 #[cfg(test)]
+mod rule_tests;
+#[cfg(test)]
 mod tests;
 
 use plain::plain;
