@@ -81,23 +81,27 @@ impl Named for SpaceUse {
     }
 }
 
+/// Up to so many things are found without a map.
+const FEW: usize = 8;
+
 /// Things that are found by their names; of equal names the first counts. A contract sees the things.
 #[derive(Drop)]
 pub struct FirstNamed<'a, T: Named> {
     items: &'a [T],
-    found: HashMap<&'a str, &'a T>,
+    /// The first thing of each name, unless the things are few.
+    found: Option<HashMap<&'a str, &'a T>>,
 }
 
 impl<'a, T: Named> Model for FirstNamed<'a, T> {
-    ghost use Rattle.std.specs.Prelude.{◌≡◌, List as Items, ℕ, bytes_eq, find, option_map};
+    ghost use Rattle.std.specs.Prelude.{◌≡◌, List as Items, ℕ, IfSome, bytes_eq, find, option_map};
     ghost use Rattle.std.specs.HashMap.{get_by};
 
     ghost Value = { Items T };
 
     ghost view = { λ index. index.items.now };
 
-    ghost invariant = { λ index. (name : Items ℕ)
-        → option_map (λ item. item.now) (get_by (λ k. bytes_eq name k.now) index.found) ≡ find (λ item. bytes_eq (T.name item) name) index.items.now };
+    ghost invariant = { λ index. IfSome index.found (λ found. (name : Items ℕ)
+        → option_map (λ item. item.now) (get_by (λ k. bytes_eq name k.now) found) ≡ find (λ item. bytes_eq (T.name item) name) index.items.now) };
 }
 
 impl<'a, T: Named> FirstNamed<'a, T> {
@@ -105,18 +109,35 @@ impl<'a, T: Named> FirstNamed<'a, T> {
     pub fn new(alloc: Global, items: &'a [T]) -> Result<Self, AllocError>
         ensures { IfOk result (λ index. index ≡ items.now) }
     {
-        Ok(FirstNamed {
-            items,
-            found: first_found(alloc, items)?,
-        })
+        let found = if items.len() <= FEW {
+            None
+        } else {
+            Some(first_found(alloc, items)?)
+        };
+        Ok(FirstNamed { items, found })
     }
 
     /// The first thing of a name.
     pub fn get(&self, name: &str) -> Option<&'a T>
         ensures { option_copied result ≡ find (λ item. bytes_eq (T.name item) name.now) self.now }
     {
-        self.found.get(name).copied()
+        match &self.found {
+            Some(found) => found.get(name).copied(),
+            None => first_named(self.items, name),
+        }
     }
+}
+
+/// The first of some things that has a name.
+fn first_named<'a, T: Named>(items: &'a [T], name: &str) -> Option<&'a T>
+    ensures { option_copied result ≡ find (λ item. bytes_eq (T.name item) name.now) items.now }
+{
+    for item in items {
+        if item.name() == name {
+            return Some(item);
+        }
+    }
+    None
 }
 
 /// The first thing of each name.
