@@ -1,5 +1,5 @@
 -- What is wrong first with the elements of a list that are left, and the names before them.
-use Rattle.std.proofs.Common.{◌≡◌, ℕ, ◌+◌, ◌<◌, List, [], ◌∷◌, ◌++◌, map, length, get_or, take, drop, Option, Some, None, refl, sym, ap, ◌∙◌, append_assoc}
+use Rattle.std.proofs.Common.{◌≡◌, ℕ, ◌+◌, ◌<◌, List, [], ◌∷◌, ◌++◌, map, length, get_or, take, drop, Option, Some, None, refl, sym, ap, ◌∙◌, append_assoc, arith}
 use Rattle.std.specs.Prelude.{filter_map, option_to_list}
 use Rattle.std.specs.List.{enumerate_from}
 use Rattle.std.specs.Option.{option_or}
@@ -7,7 +7,7 @@ use Rattle.std.proofs.lemmas.List.{at_drop_more, take_more}
 use Rattle.std.proofs.lemmas.List.Elements.{filter_map-append}
 use Rattle.tk_types.specs.First.{Finding, first_of, first_if_there}
 use Rattle.tk_types.specs.Place.{Place, ◌#◌}
-use Rattle.tk_validate.specs.Names.{names_before, told_before}
+use Rattle.tk_validate.specs.Names.{differ_from, names_before, nothing_inside, told_before}
 
 -- the first fault of the elements from a place on
 abbrev pub found_from : {X : Type 0} → (ℕ × X → Finding) → ℕ → List X → Finding
@@ -56,3 +56,11 @@ entry_passes names name_of inside at xs i x before lt is so_far new good =
     passes (entry_finding names name_of inside at xs) xs i x lt is
     (ap (λ ns. option_or (first_if_there (told_before ns (at # i)) (name_of x)) (option_or (inside (at # i) x) None)) (sym so_far)
     ∙ (ap (λ o. option_or o (option_or (inside (at # i) x) None)) new ∙ ap (λ o. option_or o None) good))
+
+-- with no name before an entry, and none behind it, nothing is wrong
+pub few_pass : {X : Type 0} (name_of : X → Option (List ℕ)) (at : Place) (xs : List X) → length xs < 2 → differ_from [] name_of nothing_inside at xs ≡ None
+unfolding differ_from
+few_pass name_of at [] few = refl
+few_pass name_of at (x ∷ []) few =
+    elim (name_of x) as (λ o. option_or (option_or (first_if_there (told_before [] (at # 0)) o) None) None ≡ None) [ None ↦ refl | Some n ↦ refl ]
+few_pass name_of at (x ∷ y ∷ xs) few = absurd (omega (arith, few))

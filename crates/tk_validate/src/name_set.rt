@@ -1,19 +1,25 @@
-ghost use Rattle.std.specs.Prelude.{◌≡◌, ◌++◌, [], ◌∷◌, IfOk, OnOk};
+ghost use Rattle.std.specs.Prelude.{◌≡◌, ◌++◌, [], ◌∷◌, ℕ, List, map, bytes_eq, is_some, IfOk, OnOk};
+ghost use Rattle.std.specs.HashMap.{get_by};
+ghost use Rattle.std.specs.List.{list_any};
 ghost use Rattle.tk_bind.specs.Scope.{is_in};
 
 use std::alloc::{AllocError, Global};
 use std::collections::HashMap;
 use std::marker::Model;
 
-/// Names in the order in which they came, that are found by an index. A contract sees the names.
+/// So many names are found without an index.
+const FEW: usize = 8;
+
+/// Names in the order in which they came, that are found by an index once they are many. A contract sees the names.
 #[derive(Drop)]
 pub(crate) struct NameSet<'a> {
+    alloc: Global,
     names: Vec<&'a str>,
-    found: HashMap<&'a str, ()>,
+    found: Option<HashMap<&'a str, ()>>,
 }
 
 impl<'a> Model for NameSet<'a> {
-    ghost use Rattle.std.specs.Prelude.{◌≡◌, List, ℕ, map, bytes_eq, is_some};
+    ghost use Rattle.std.specs.Prelude.{◌≡◌, List, ℕ, map, bytes_eq, is_some, MatchOption, ⊤};
     ghost use Rattle.std.specs.HashMap.{get_by};
     ghost use Rattle.tk_bind.specs.Scope.{is_in};
 
@@ -21,8 +27,8 @@ impl<'a> Model for NameSet<'a> {
 
     ghost view = { λ set. map (λ name. name.now) set.names.items };
 
-    ghost invariant = { λ set. (name : List ℕ)
-        → is_some (get_by (λ k. bytes_eq name k.now) set.found) ≡ is_in (map (λ n. n.now) set.names.items) name };
+    ghost invariant = { λ set. MatchOption set.found ⊤ (λ found. (name : List ℕ)
+        → is_some (get_by (λ k. bytes_eq name k.now) found) ≡ is_in (map (λ n. n.now) set.names.items) name) };
 }
 
 impl<'a> NameSet<'a> {
@@ -31,8 +37,9 @@ impl<'a> NameSet<'a> {
         ensures { result ≡ [] }
     {
         NameSet {
+            alloc,
             names: Vec::new(alloc),
-            found: HashMap::new(alloc),
+            found: None,
         }
     }
 
@@ -40,7 +47,20 @@ impl<'a> NameSet<'a> {
     pub(crate) fn contains(&self, name: &str) -> bool
         ensures { result ≡ is_in self.now name.now }
     {
-        self.found.get(name).is_some()
+        match &self.found {
+            Some(found) => found.get(name).is_some(),
+            None => is_among(self.names.as_slice(), name),
+        }
+    }
+
+    /// Makes the index, if there is none and a name more would be too many.
+    fn prepare(&mut self) -> Result<(), AllocError>
+        ensures { self.new ≡ self.old }
+    {
+        if self.found.is_none() && self.names.len() >= FEW {
+            self.found = Some(indexed(self.alloc, self.names.as_slice())?);
+        }
+        Ok(())
     }
 
     /// Adds a name, and tells whether it was there before.
@@ -49,11 +69,33 @@ impl<'a> NameSet<'a> {
         ensures added { OnOk result (self.new ≡ self.old ++ name.now ∷ []) }
     {
         let was = self.contains(name);
+        self.prepare()?;
         self.names.push(name)?;
-        if self.found.insert(name, ()).is_err() {
-            self.names.pop();
-            return Err(AllocError);
+        if let Some(found) = &mut self.found {
+            if found.insert(name, ()).is_err() {
+                self.names.pop();
+                return Err(AllocError);
+            }
         }
         Ok(was)
     }
+}
+
+/// Whether the name is among some.
+fn is_among(names: &[&str], name: &str) -> bool
+    ensures { result ≡ list_any (λ other. bytes_eq other.now name.now) names.now }
+{
+    names.iter().any(|other| *other == name)
+}
+
+/// An index of the names.
+fn indexed<'a>(alloc: Global, names: &[&'a str]) -> Result<HashMap<&'a str, ()>, AllocError>
+    ensures { IfOk result (λ found. (name : List ℕ)
+        → is_some (get_by (λ k. bytes_eq name k.now) found) ≡ is_in (map (λ n. n.now) names.now) name) }
+{
+    let mut found: HashMap<&'a str, ()> = HashMap::new(alloc);
+    for name in names {
+        found.insert(*name, ())?;
+    }
+    Ok(found)
 }

@@ -65,7 +65,7 @@ fn check_entries<'a, T: Entry, R: Rule<T>>(
 }
 
 /// Refuses the first entry of a list at a key with a name that stands before it.
-#[tactic(auto, unfolding(crate::specs::Names::differ_from))]
+#[tactic(auto, using(crate::proofs::InOrder::few_pass))]
 fn check_list<T: Entry>(
     alloc: Global,
     entries: &[T],
@@ -75,7 +75,7 @@ fn check_list<T: Entry>(
     ensures { Reads (differ_from [] T.name nothing_inside (place.now ▸ key.now) entries.now) tt result }
 {
     match entries {
-        [] => Ok(()),
+        [] | [_] => Ok(()),
         _ => check_entries(
             alloc,
             NameSet::new(alloc),
