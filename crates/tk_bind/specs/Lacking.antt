@@ -4,7 +4,7 @@ use Rattle.std.specs.List.{list_any}
 use Rattle.tk_vars.specs.declared.piece.Piece.{Piece}
 use Rattle.tk_vars.specs.declared.piece.Piece.TheVariants.{Plain, Ref}
 use Rattle.tk_vars.specs.Reading.{pieces_of}
-use Rattle.tk_vars.specs.Target.{Target, param, result, word, target_of}
+use Rattle.tk_vars.specs.Target.{Target, result, target_of}
 use Rattle.tk_bind.specs.declared.env.Env.{Env}
 use Rattle.tk_bind.specs.Substitute.{result_named}
 

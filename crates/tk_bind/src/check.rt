@@ -15,7 +15,7 @@ use tk_vars::laws::one_bad_offset;
 use tk_vars::{Piece, Pieces, Reference, ScanError, scan};
 
 /// The pieces of a text that has a reading.
-fn scanned(alloc: Global, text: &str) -> Result<Pieces, CheckError>
+fn scanned(alloc: Global, text: &str) -> Result<Pieces<'_>, CheckError>
     ensures pieces { IfOk result (λ pieces. pieces ≡ pieces_of text.now) }
     ensures good { OnOk result (bad_offset text.now ≡ None) }
     ensures refused { (scope : Scope) (whole : Bool) → IfErr result (IsCheckRefusal (text_fault scope whole text.now)) }
@@ -29,11 +29,11 @@ fn scanned(alloc: Global, text: &str) -> Result<Pieces, CheckError>
 }
 
 /// The piece's reference, if it is to what isn't visible.
-fn unknown_in<'p>(
+fn unknown_in<'p, 't>(
     alloc: Global,
     names: &ScopeNames<'_>,
-    piece: &'p Piece,
-) -> Result<Option<&'p Reference>, AllocError>
+    piece: &'p Piece<'t>,
+) -> Result<Option<&'p Reference<'t>>, AllocError>
     ensures { IfOk result (λ found. option_copied found ≡ find (λ r. not (is_visible names.now r)) (filter_map referenced (piece.now ∷ []))) }
 {
     let Piece::Ref(reference) = piece else {
@@ -46,11 +46,11 @@ fn unknown_in<'p>(
 }
 
 /// The first reference to what isn't visible.
-fn first_unknown<'p>(
+fn first_unknown<'p, 't>(
     alloc: Global,
     names: &ScopeNames<'_>,
-    pieces: &'p [Piece],
-) -> Result<Option<&'p Reference>, AllocError>
+    pieces: &'p [Piece<'t>],
+) -> Result<Option<&'p Reference<'t>>, AllocError>
     ensures { IfOk result (λ found. option_copied found ≡ find (λ r. not (is_visible names.now r)) (filter_map referenced pieces.now)) }
 {
     for piece in pieces {
@@ -62,12 +62,12 @@ fn first_unknown<'p>(
 }
 
 /// The piece's reference, if it is used against its type.
-fn mistyped_in<'p>(
+fn mistyped_in<'p, 't>(
     alloc: Global,
     names: &ScopeNames<'_>,
     whole: bool,
-    piece: &'p Piece,
-) -> Result<Option<&'p Reference>, AllocError>
+    piece: &'p Piece<'t>,
+) -> Result<Option<&'p Reference<'t>>, AllocError>
     ensures { IfOk result (λ found. option_copied found ≡ find (λ r. not (is_well_typed names.now whole r)) (filter_map referenced (piece.now ∷ []))) }
 {
     let Piece::Ref(reference) = piece else {
@@ -80,12 +80,12 @@ fn mistyped_in<'p>(
 }
 
 /// The first reference that is used against its type.
-fn first_mistyped<'p>(
+fn first_mistyped<'p, 't>(
     alloc: Global,
     names: &ScopeNames<'_>,
     whole: bool,
-    pieces: &'p [Piece],
-) -> Result<Option<&'p Reference>, AllocError>
+    pieces: &'p [Piece<'t>],
+) -> Result<Option<&'p Reference<'t>>, AllocError>
     ensures { IfOk result (λ found. option_copied found ≡ find (λ r. not (is_well_typed names.now whole r)) (filter_map referenced pieces.now)) }
 {
     for piece in pieces {
@@ -97,7 +97,7 @@ fn first_mistyped<'p>(
 }
 
 /// The reference as it is written.
-fn spelled(alloc: Global, reference: &Reference) -> Result<Text, AllocError>
+fn spelled(alloc: Global, reference: &Reference<'_>) -> Result<Text, AllocError>
     ensures { IfOk result (λ text. text ≡ reference.now.spelling) }
 {
     Text::from_str(alloc, reference.spelling.as_str())

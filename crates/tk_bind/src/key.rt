@@ -5,7 +5,7 @@ use std::alloc::{AllocError, Global};
 use tk_vars::Part;
 
 /// Adds a part as it stands in a key: its name, or an index or `[*]` as it is written.
-fn push_part(key: &mut String, part: &Part) -> Result<(), AllocError>
+fn push_part(key: &mut String, part: &Part<'_>) -> Result<(), AllocError>
     ensures { OnOk result (string_bytes key.new ≡ string_bytes key.old ++ key_part part.now) }
 {
     match part {
@@ -16,7 +16,7 @@ fn push_part(key: &mut String, part: &Part) -> Result<(), AllocError>
 }
 
 /// A part as a name: an index or `[*]` as it is written, which names nothing. The only error is want of memory.
-pub fn key_part(alloc: Global, part: &Part) -> Result<String, AllocError>
+pub fn key_part(alloc: Global, part: &Part<'_>) -> Result<String, AllocError>
     ensures { IfOk result (λ key. string_bytes key ≡ key_part part.now) }
 {
     let mut key = String::new(alloc);
@@ -25,7 +25,7 @@ pub fn key_part(alloc: Global, part: &Part) -> Result<String, AllocError>
 }
 
 /// The key of a word with this first part.
-fn key_from(alloc: Global, first: &Part, rest: &[Part]) -> Result<String, AllocError>
+fn key_from(alloc: Global, first: &Part<'_>, rest: &[Part<'_>]) -> Result<String, AllocError>
     ensures { IfOk result (λ key. string_bytes key ≡ key_of (first.now ∷ rest.now)) }
 {
     let mut key = key_part(alloc, first)?;
@@ -37,7 +37,7 @@ fn key_from(alloc: Global, first: &Part, rest: &[Part]) -> Result<String, AllocE
 }
 
 /// The key of a word: its parts with a dot between each two. The only error is want of memory.
-pub fn key_of(alloc: Global, parts: &[Part]) -> Result<String, AllocError>
+pub fn key_of(alloc: Global, parts: &[Part<'_>]) -> Result<String, AllocError>
     ensures { IfOk result (λ key. string_bytes key ≡ key_of parts.now) }
 {
     match parts {

@@ -26,7 +26,7 @@ impl<'i, 'p, 'r, 'w, 'o> Lookup<'i, 'p, 'r, 'w, 'o> {
     }
 
     /// Whether the piece refers to a result that isn't available.
-    fn piece_lacks(&self, alloc: Global, piece: &Piece) -> Result<bool, AllocError>
+    fn piece_lacks(&self, alloc: Global, piece: &Piece<'_>) -> Result<bool, AllocError>
         ensures { IfOk result (λ lacks. lacks ≡ piece_lacks self.now piece.now) }
     {
         match piece {
@@ -38,7 +38,7 @@ impl<'i, 'p, 'r, 'w, 'o> Lookup<'i, 'p, 'r, 'w, 'o> {
     }
 
     /// Whether one of these pieces refers to a result that isn't available.
-    fn pieces_lack(&self, alloc: Global, pieces: &[Piece]) -> Result<bool, AllocError>
+    fn pieces_lack(&self, alloc: Global, pieces: &[Piece<'_>]) -> Result<bool, AllocError>
         ensures { IfOk result (λ lack. lack ≡ list_any (piece_lacks self.now) pieces.now) }
     {
         for piece in pieces {

@@ -157,8 +157,10 @@ impl<'i, 'p, 'r, 'w, 'o> Lookup<'i, 'p, 'r, 'w, 'o> {
         match target {
             Target::Param { name, selector } => {
                 let name = key_part(alloc, name)?;
-                let value = self.param(name.as_str());
-                Ok(value.and_then(|value| selected(selector, value)))
+                match self.param(name.as_str()) {
+                    Some(value) => Ok(selected(selector, value)),
+                    None => Ok(None),
+                }
             }
             Target::Result {
                 task,
@@ -166,8 +168,10 @@ impl<'i, 'p, 'r, 'w, 'o> Lookup<'i, 'p, 'r, 'w, 'o> {
                 selector,
             } => {
                 let name = key_part(alloc, name)?;
-                let value = self.task_result(task.as_str(), name.as_str());
-                Ok(value.and_then(|value| selected(selector, value)))
+                match self.task_result(task.as_str(), name.as_str()) {
+                    Some(value) => Ok(selected(selector, value)),
+                    None => Ok(None),
+                }
             }
             Target::Word { parts } => {
                 let key = key_of(alloc, parts)?;
@@ -180,7 +184,7 @@ impl<'i, 'p, 'r, 'w, 'o> Lookup<'i, 'p, 'r, 'w, 'o> {
     pub fn reference_value<'s>(
         &'s self,
         alloc: Global,
-        reference: &Reference,
+        reference: &Reference<'_>,
     ) -> Result<Option<Found<'s>>, AllocError>
         ensures { IfOk result (λ found. option_map found_value found ≡ reference_value self.now reference.now) }
     {

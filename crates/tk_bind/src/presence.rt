@@ -13,7 +13,7 @@ use tk_vars::{Piece, Reference};
 
 impl<'i, 'p, 'r, 'w, 'o> Lookup<'i, 'p, 'r, 'w, 'o> {
     /// Whether the reference takes a text.
-    fn has_text(&self, alloc: Global, reference: &Reference) -> Result<bool, AllocError>
+    fn has_text(&self, alloc: Global, reference: &Reference<'_>) -> Result<bool, AllocError>
         ensures { IfOk result (λ has. has ≡ is_some (option_and_then as_text (reference_value self.now reference.now))) }
     {
         match self.reference_value(alloc, reference)? {
@@ -23,7 +23,7 @@ impl<'i, 'p, 'r, 'w, 'o> Lookup<'i, 'p, 'r, 'w, 'o> {
     }
 
     /// Whether the reference takes a list.
-    fn has_list(&self, alloc: Global, reference: &Reference) -> Result<bool, AllocError>
+    fn has_list(&self, alloc: Global, reference: &Reference<'_>) -> Result<bool, AllocError>
         ensures { IfOk result (λ has. has ≡ is_some (option_and_then as_list (reference_value self.now reference.now))) }
     {
         match self.reference_value(alloc, reference)? {
@@ -33,7 +33,7 @@ impl<'i, 'p, 'r, 'w, 'o> Lookup<'i, 'p, 'r, 'w, 'o> {
     }
 
     /// Whether the piece has a text.
-    fn has_piece(&self, alloc: Global, piece: &Piece) -> Result<bool, AllocError>
+    fn has_piece(&self, alloc: Global, piece: &Piece<'_>) -> Result<bool, AllocError>
         ensures { IfOk result (λ has. has ≡ is_ok (piece_text self.now piece.now)) }
     {
         match piece {
@@ -43,7 +43,7 @@ impl<'i, 'p, 'r, 'w, 'o> Lookup<'i, 'p, 'r, 'w, 'o> {
     }
 
     /// Whether each piece has a text.
-    fn has_pieces(&self, alloc: Global, pieces: &[Piece]) -> Result<bool, AllocError>
+    fn has_pieces(&self, alloc: Global, pieces: &[Piece<'_>]) -> Result<bool, AllocError>
         ensures { IfOk result (λ has. has ≡ is_ok (joined_text self.now pieces.now)) }
     {
         for piece in pieces {

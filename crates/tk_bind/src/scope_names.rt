@@ -86,7 +86,7 @@ impl<'a> ScopeNames<'a> {
     pub(crate) fn is_visible(
         &self,
         alloc: Global,
-        reference: &Reference,
+        reference: &Reference<'_>,
     ) -> Result<bool, AllocError>
         ensures { IfOk result (λ seen. seen ≡ is_visible self.now reference.now) }
     {
@@ -101,7 +101,7 @@ impl<'a> ScopeNames<'a> {
     }
 
     /// Whether the parameter of this name may have such a selector.
-    fn allows(&self, name: &str, selector: &[Part]) -> bool
+    fn allows(&self, name: &str, selector: &[Part<'_>]) -> bool
         ensures { result ≡ (is_in self.now.untyped name.now || option_map_or (λ p. suits p.kind selector.now) (declared self.now.params name.now) true) }
     {
         if is_in(&self.untyped, name) {
@@ -131,7 +131,7 @@ impl<'a> ScopeNames<'a> {
         &self,
         alloc: Global,
         whole: bool,
-        reference: &Reference,
+        reference: &Reference<'_>,
     ) -> Result<bool, AllocError>
         ensures { IfOk result (λ typed. typed ≡ is_well_typed self.now whole reference.now) }
     {
@@ -148,7 +148,7 @@ fn is_in(texts: &FirstNamed<'_, Text>, text: &str) -> bool
 }
 
 /// Whether a value of the type may have such a selector.
-pub fn suits(kind: ParamType, selector: &[Part]) -> bool
+pub fn suits(kind: ParamType, selector: &[Part<'_>]) -> bool
     ensures { result ≡ suits kind selector.now }
 {
     match selector {

@@ -19,29 +19,35 @@ fn text_at<'a>(pairs: &'a [Pair], key: &str) -> Option<&'a Text>
 }
 
 /// What a selector takes of a list.
-fn of_list<'a>(selector: &[Part], texts: &'a [Text]) -> Option<Found<'a>>
+fn of_list<'a>(selector: &[Part<'_>], texts: &'a [Text]) -> Option<Found<'a>>
     ensures { option_map found_value result ≡ selected selector.now (Value.Arr texts.now) }
 {
     match selector {
-        [Part::Index(index)] => texts.get(*index as usize).map(Found::Text),
-        [Part::Star] => Some(Found::Texts(texts)),
+        [only] => match only {
+            Part::Index(index) => texts.get(*index as usize).map(Found::Text),
+            Part::Star => Some(Found::Texts(texts)),
+            Part::Name(_) => None,
+        },
         _ => None,
     }
 }
 
 /// What a selector takes of an object.
-fn of_object<'a>(selector: &[Part], pairs: &'a [Pair]) -> Option<Found<'a>>
+fn of_object<'a>(selector: &[Part<'_>], pairs: &'a [Pair]) -> Option<Found<'a>>
     ensures { option_map found_value result ≡ selected selector.now (Value.Obj pairs.now) }
 {
     match selector {
-        [Part::Name(key)] => text_at(pairs, key.as_str()).map(Found::Text),
-        [Part::Star] => Some(Found::Pairs(pairs)),
+        [only] => match only {
+            Part::Name(key) => text_at(pairs, key.as_str()).map(Found::Text),
+            Part::Star => Some(Found::Pairs(pairs)),
+            Part::Index(_) => None,
+        },
         _ => None,
     }
 }
 
 /// What a selector takes of a value that it fits.
-pub(crate) fn selected<'a>(selector: &[Part], value: &'a Value) -> Option<Found<'a>>
+pub(crate) fn selected<'a>(selector: &[Part<'_>], value: &'a Value) -> Option<Found<'a>>
     ensures { option_map found_value result ≡ selected selector.now value.now }
 {
     match value {

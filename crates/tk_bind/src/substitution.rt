@@ -17,7 +17,7 @@ use tk_types::{List, Pair, Text, TryCopy, Value};
 use tk_vars::{Piece, Pieces, Reference, ScanError, scan};
 
 /// The pieces of a text that has a reading. The only error is want of memory.
-pub fn pieces_of(alloc: Global, text: &str) -> Result<Pieces, AllocError>
+pub fn pieces_of(alloc: Global, text: &str) -> Result<Pieces<'_>, AllocError>
     requires { HasReading text.now }
     ensures { IfOk result (λ pieces. pieces ≡ pieces_of text.now) }
 {
@@ -29,17 +29,14 @@ pub fn pieces_of(alloc: Global, text: &str) -> Result<Pieces, AllocError>
 }
 
 /// The reference that is the whole text and ends with `[*]`.
-pub(crate) fn whole_of(pieces: &[Piece]) -> Option<&Reference>
+pub(crate) fn whole_of<'p, 't>(pieces: &'p [Piece<'t>]) -> Option<&'p Reference<'t>>
     ensures { option_copied result ≡ whole_of pieces.now }
 {
     match pieces {
-        [Piece::Ref(reference)] => {
-            if reference.parts.ends_with_star() {
-                Some(reference)
-            } else {
-                None
-            }
-        }
+        [only] => match only {
+            Piece::Ref(reference) if reference.parts.ends_with_star() => Some(reference),
+            _ => None,
+        },
         _ => None,
     }
 }
@@ -59,7 +56,7 @@ impl<'i, 'p, 'r, 'w, 'o> Lookup<'i, 'p, 'r, 'w, 'o> {
     fn text_of<'s>(
         &'s self,
         alloc: Global,
-        reference: &Reference,
+        reference: &Reference<'_>,
     ) -> Result<&'s Text, SubstituteError>
         ensures value { IfOk result (λ text. ok_or (option_and_then as_text (reference_value self.now reference.now)) reference.now.spelling ≡ Ok text.now) }
         ensures refused { IfErr result (IsUnavailable (ok_or (option_and_then as_text (reference_value self.now reference.now)) reference.now.spelling)) }
@@ -76,7 +73,7 @@ impl<'i, 'p, 'r, 'w, 'o> Lookup<'i, 'p, 'r, 'w, 'o> {
     fn list_of<'s>(
         &'s self,
         alloc: Global,
-        reference: &Reference,
+        reference: &Reference<'_>,
     ) -> Result<&'s [Text], SubstituteError>
         ensures value { IfOk result (λ texts. ok_or (option_and_then as_list (reference_value self.now reference.now)) reference.now.spelling ≡ Ok texts.now) }
         ensures refused { IfErr result (IsUnavailable (ok_or (option_and_then as_list (reference_value self.now reference.now)) reference.now.spelling)) }
@@ -90,7 +87,7 @@ impl<'i, 'p, 'r, 'w, 'o> Lookup<'i, 'p, 'r, 'w, 'o> {
     }
 
     /// The value that a reference takes, copied.
-    fn value_of(&self, alloc: Global, reference: &Reference) -> Result<Value, SubstituteError>
+    fn value_of(&self, alloc: Global, reference: &Reference<'_>) -> Result<Value, SubstituteError>
         ensures value { IfOk result (λ value. ok_or (reference_value self.now reference.now) reference.now.spelling ≡ Ok value) }
         ensures refused { IfErr result (IsUnavailable (ok_or (reference_value self.now reference.now) reference.now.spelling)) }
     {
@@ -107,7 +104,7 @@ impl<'i, 'p, 'r, 'w, 'o> Lookup<'i, 'p, 'r, 'w, 'o> {
         &self,
         alloc: Global,
         text: &mut String,
-        piece: &Piece,
+        piece: &Piece<'_>,
     ) -> Result<(), SubstituteError>
         ensures value { OnOk result (on_ok (λ t. string_bytes text.old ++ t) (piece_text self.now piece.now) ≡ Ok (string_bytes text.new)) }
         ensures refused { IfErr result (IsUnavailable (piece_text self.now piece.now)) }
@@ -120,7 +117,7 @@ impl<'i, 'p, 'r, 'w, 'o> Lookup<'i, 'p, 'r, 'w, 'o> {
     }
 
     /// The texts of the pieces, joined.
-    fn joined_text(&self, alloc: Global, pieces: &[Piece]) -> Result<Text, SubstituteError>
+    fn joined_text(&self, alloc: Global, pieces: &[Piece<'_>]) -> Result<Text, SubstituteError>
         ensures value { IfOk result (λ text. joined_text self.now pieces.now ≡ Ok text) }
         ensures refused { IfErr result (IsUnavailable (joined_text self.now pieces.now)) }
     {

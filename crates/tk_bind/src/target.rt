@@ -9,22 +9,22 @@ use tk_vars::{Part, Word};
 pub enum Target<'a> {
     /// A parameter, and the selector.
     Param {
-        name: &'a Part,
-        selector: &'a [Part],
+        name: &'a Part<'a>,
+        selector: &'a [Part<'a>],
     },
     /// A task, a result of it, and the selector.
     Result {
-        task: &'a Word,
-        name: &'a Part,
-        selector: &'a [Part],
+        task: &'a Word<'a>,
+        name: &'a Part<'a>,
+        selector: &'a [Part<'a>],
     },
     /// A context, status, path or workspace variable.
     Word {
-        parts: &'a [Part],
+        parts: &'a [Part<'a>],
     },
 }
 
-fn param_target(parts: &[Part]) -> Option<Target<'_>>
+fn param_target<'a>(parts: &'a [Part<'a>]) -> Option<Target<'a>>
     ensures { option_map meant result ≡ param_target parts.now }
 {
     match parts {
@@ -33,26 +33,25 @@ fn param_target(parts: &[Part]) -> Option<Target<'_>>
     }
 }
 
-fn result_target(parts: &[Part]) -> Option<Target<'_>>
+fn result_target<'a>(parts: &'a [Part<'a>]) -> Option<Target<'a>>
     ensures { option_map meant result ≡ result_target parts.now }
 {
     match parts {
-        [Part::Name(task), Part::Name(field), name, selector @ ..] => {
-            if field.as_str() == "results" {
+        [first, second, name, selector @ ..] => match (first, second) {
+            (Part::Name(task), Part::Name(field)) if field.as_str() == "results" => {
                 Some(Target::Result {
                     task,
                     name,
                     selector,
                 })
-            } else {
-                None
             }
-        }
+            _ => None,
+        },
         _ => None,
     }
 }
 
-fn headed<'a>(head: &str, parts: &'a [Part]) -> Option<Target<'a>>
+fn headed<'a>(head: &str, parts: &'a [Part<'a>]) -> Option<Target<'a>>
     ensures { option_map meant result ≡ (if bytes_eq head.now (codes "params") then param_target parts.now else (if bytes_eq head.now (codes "tasks") || bytes_eq head.now (codes "finally") then result_target parts.now else None)) }
 {
     if head == "params" {
@@ -65,13 +64,14 @@ fn headed<'a>(head: &str, parts: &'a [Part]) -> Option<Target<'a>>
 }
 
 /// What a reference with these parts refers to.
-pub fn target_of(parts: &[Part]) -> Target<'_>
+pub fn target_of<'a>(parts: &'a [Part<'a>]) -> Target<'a>
     ensures { meant result ≡ target_of parts.now }
 {
     match parts {
-        [Part::Name(head), rest @ ..] => {
-            headed(head.as_str(), rest).unwrap_or(Target::Word { parts })
-        }
-        _ => Target::Word { parts },
+        [first, rest @ ..] => match first {
+            Part::Name(head) => headed(head.as_str(), rest).unwrap_or(Target::Word { parts }),
+            _ => Target::Word { parts },
+        },
+        [] => Target::Word { parts },
     }
 }

@@ -16,17 +16,20 @@ fn is_task_head(head: &str) -> bool
 }
 
 /// The name that parts begin with, and what follows it.
-fn named(parts: &[Part]) -> Option<(&str, &[Part])>
+fn named<'p, 't>(parts: &'p [Part<'t>]) -> Option<(&'t str, &'p [Part<'t>])>
     ensures { option_map (λ f. (f.0.now, f.1.now)) result ≡ first_name parts.now }
 {
     match parts {
-        [Part::Name(name), rest @ ..] => Some((name.as_str(), rest)),
-        _ => None,
+        [first, rest @ ..] => match first {
+            Part::Name(name) => Some((name.as_str(), rest)),
+            _ => None,
+        },
+        [] => None,
     }
 }
 
 /// The task that stands behind the head of a reference to a task's result.
-fn task_in(parts: &[Part]) -> Option<&str>
+fn task_in<'t>(parts: &[Part<'t>]) -> Option<&'t str>
     ensures { option_map (λ name. name.now) result ≡ task_behind parts.now }
 {
     let Some((task, behind)) = named(parts) else {
@@ -45,7 +48,7 @@ fn task_in(parts: &[Part]) -> Option<&str>
 /// The task of whose results a reference with these parts names one, if it does (Tekton, Pipelines, Passing one
 /// Task's Results into the Parameters or when expressions of another).
 #[tactic(auto, unfolding(crate::specs::Tasks::part_task))]
-pub fn task_of(parts: &[Part]) -> Option<&str>
+pub fn task_of<'t>(parts: &[Part<'t>]) -> Option<&'t str>
     ensures { option_map (λ name. name.now) result ≡ part_task parts.now }
 {
     let Some((head, rest)) = named(parts) else {
@@ -59,7 +62,7 @@ pub fn task_of(parts: &[Part]) -> Option<&str>
 }
 
 /// Adds the task of whose results a piece names one.
-fn add_of_piece(alloc: Global, piece: &Piece, names: &mut List<Text>) -> Result<(), AllocError>
+fn add_of_piece(alloc: Global, piece: &Piece<'_>, names: &mut List<Text>) -> Result<(), AllocError>
     ensures { OnOk result (names.new ≡ names.old ++ piece_tasks piece.now) }
 {
     let Piece::Ref(reference) = piece else {
@@ -72,7 +75,11 @@ fn add_of_piece(alloc: Global, piece: &Piece, names: &mut List<Text>) -> Result<
 }
 
 /// Adds the tasks of whose results some pieces name one.
-fn add_of_pieces(alloc: Global, pieces: &[Piece], names: &mut List<Text>) -> Result<(), AllocError>
+fn add_of_pieces(
+    alloc: Global,
+    pieces: &[Piece<'_>],
+    names: &mut List<Text>,
+) -> Result<(), AllocError>
     ensures { OnOk result (names.new ≡ names.old ++ flat_map piece_tasks pieces.now) }
 {
     for piece in pieces {

@@ -87,7 +87,7 @@ impl<'a> Declarer<'a> {
     }
 
     /// The type of what a reference takes of a result.
-    fn type_by(&self, name: &str, selector: &[Part]) -> Option<ParamType>
+    fn type_by(&self, name: &str, selector: &[Part<'_>]) -> Option<ParamType>
         ensures { result ≡ type_by name.now selector.now self.now }
     {
         let kind = self.seen_type(self.declared_type(name)?)?;
@@ -96,7 +96,7 @@ impl<'a> Declarer<'a> {
 }
 
 /// Whether the last part is `[*]`.
-fn ends_with_star(parts: &[Part]) -> bool
+fn ends_with_star(parts: &[Part<'_>]) -> bool
     ensures { result ≡ ends_with_star parts.now }
 {
     match parts.last() {
@@ -106,7 +106,7 @@ fn ends_with_star(parts: &[Part]) -> bool
 }
 
 /// The type of what a selector takes of a value of a type, if it suits that.
-fn taken(kind: ParamType, selector: &[Part]) -> Option<ParamType>
+fn taken(kind: ParamType, selector: &[Part<'_>]) -> Option<ParamType>
     ensures { result ≡ taken kind selector.now }
 {
     if !suits(kind, selector) {
@@ -140,7 +140,7 @@ fn type_of_result(
     tasks: &FirstNamed<'_, Declarer<'_>>,
     task: &str,
     name: &str,
-    selector: &[Part],
+    selector: &[Part<'_>],
 ) -> Option<ParamType>
     ensures { result ≡ option_and_then (type_by name.now selector.now) (task_and_body tasks.now task.now) }
 {
@@ -181,7 +181,12 @@ struct Misuses<'l, 'e, 'a> {
 impl<'l, 'e, 'a> Question for Misuses<'l, 'e, 'a> {
     ghost asks = { λ q due r. misuses q.tasks.now due r };
 
-    fn holds(&self, alloc: Global, due: Due, reference: &Reference) -> Result<bool, AllocError> {
+    fn holds(
+        &self,
+        alloc: Global,
+        due: Due,
+        reference: &Reference<'_>,
+    ) -> Result<bool, AllocError> {
         is_misused(
             alloc,
             self.tasks,

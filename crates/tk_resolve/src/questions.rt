@@ -29,7 +29,7 @@ fn takes_due(
     alloc: Global,
     lookup: &Lookup,
     due: Due,
-    reference: &Reference,
+    reference: &Reference<'_>,
 ) -> Result<bool, AllocError>
     ensures { IfOk result (λ takes. takes ≡ takes_due lookup.now due reference.now) }
 {
@@ -73,7 +73,12 @@ pub(crate) struct Lacks<'l, 'i, 'p, 'r, 'w, 'o, 'n, 's> {
 impl<'l, 'i, 'p, 'r, 'w, 'o, 'n, 's> Question for Lacks<'l, 'i, 'p, 'r, 'w, 'o, 'n, 's> {
     ghost asks = { λ q due r. lacks q.lookup.now q.spared.now due r };
 
-    fn holds(&self, alloc: Global, due: Due, reference: &Reference) -> Result<bool, AllocError> {
+    fn holds(
+        &self,
+        alloc: Global,
+        due: Due,
+        reference: &Reference<'_>,
+    ) -> Result<bool, AllocError> {
         let target = target_of(reference.parts.as_slice());
         if !is_judged(alloc, self.spared, target)? {
             return Ok(false);
@@ -96,7 +101,12 @@ fn is_result(target: Target<'_>) -> bool
 impl Question for ToResult {
     ghost asks = { λ q due r. is_to_result due r };
 
-    fn holds(&self, _alloc: Global, _due: Due, reference: &Reference) -> Result<bool, AllocError> {
+    fn holds(
+        &self,
+        _alloc: Global,
+        _due: Due,
+        reference: &Reference<'_>,
+    ) -> Result<bool, AllocError> {
         Ok(is_result(target_of(reference.parts.as_slice())))
     }
 }
@@ -108,7 +118,12 @@ pub(crate) struct ToLater;
 impl Question for ToLater {
     ghost asks = { λ q due r. is_to_later due r };
 
-    fn holds(&self, _alloc: Global, _due: Due, reference: &Reference) -> Result<bool, AllocError> {
+    fn holds(
+        &self,
+        _alloc: Global,
+        _due: Due,
+        reference: &Reference<'_>,
+    ) -> Result<bool, AllocError> {
         let parts = reference.parts.as_slice();
         Ok(is_result(target_of(parts)) || is_status(parts))
     }

@@ -18,12 +18,12 @@ pub(crate) trait Question {
     ghost asks: { Self → Due → Reference → Bool };
 
     /// The answer. The only error is want of memory.
-    fn holds(&self, alloc: Global, due: Due, reference: &Reference) -> Result<bool, AllocError>
+    fn holds(&self, alloc: Global, due: Due, reference: &Reference<'_>) -> Result<bool, AllocError>
         ensures { IfOk result (λ holds. holds ≡ asks self.now due reference.now) };
 }
 
 /// The pieces of a text that has a reading.
-fn pieces_of(alloc: Global, text: &str) -> Result<Pieces, AllocError>
+fn pieces_of(alloc: Global, text: &str) -> Result<Pieces<'_>, AllocError>
     requires { HasReading text.now }
     ensures { IfOk result (λ pieces. pieces ≡ pieces_of text.now) }
 {
@@ -39,7 +39,7 @@ fn piece_holds<Q: Question>(
     alloc: Global,
     question: &Q,
     due: Due,
-    piece: &Piece,
+    piece: &Piece<'_>,
 ) -> Result<bool, AllocError>
     ensures { IfOk result (λ holds. holds ≡ passes (Q.asks question.now due) piece.now) }
 {
@@ -54,7 +54,7 @@ fn any_piece<Q: Question>(
     alloc: Global,
     question: &Q,
     due: Due,
-    pieces: &[Piece],
+    pieces: &[Piece<'_>],
 ) -> Result<bool, AllocError>
     ensures { IfOk result (λ any. any ≡ list_any (passes (Q.asks question.now due)) pieces.now) }
 {

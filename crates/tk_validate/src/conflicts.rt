@@ -42,7 +42,7 @@ fn conflict(alloc: Global, place: &Location<'_>, name: &str) -> Rejected
 }
 
 /// The task of these of which a reference takes a result other than as `[*]`.
-fn taken_of<'p>(names: &NameSet<'_>, reference: &'p Reference) -> Option<&'p str>
+fn taken_of<'p, 't>(names: &NameSet<'_>, reference: &'p Reference<'t>) -> Option<&'p str>
     ensures { option_map (λ task. task.now) result ≡ taken_in_part names.now reference.now }
 {
     if reference.parts.ends_with_star() {
@@ -55,7 +55,7 @@ fn taken_of<'p>(names: &NameSet<'_>, reference: &'p Reference) -> Option<&'p str
 }
 
 /// The same of a piece.
-fn taken_in<'p>(names: &NameSet<'_>, piece: &'p Piece) -> Option<&'p str>
+fn taken_in<'p, 't>(names: &NameSet<'_>, piece: &'p Piece<'t>) -> Option<&'p str>
     ensures { option_map (λ task. task.now) result ≡ first_of (map (taken_in_part names.now) (filter_map referenced (piece.now ∷ []))) }
 {
     match piece {
@@ -65,7 +65,7 @@ fn taken_in<'p>(names: &NameSet<'_>, piece: &'p Piece) -> Option<&'p str>
 }
 
 /// The first such task of some pieces.
-fn first_taken<'p>(names: &NameSet<'_>, pieces: &'p [Piece]) -> Option<&'p str>
+fn first_taken<'p, 't>(names: &NameSet<'_>, pieces: &'p [Piece<'t>]) -> Option<&'p str>
     ensures { option_map (λ task. task.now) result ≡ first_of (map (taken_in_part names.now) (filter_map referenced pieces.now)) }
 {
     for piece in pieces {
@@ -104,11 +104,14 @@ impl<'n, 'a> TextRule for TakesWhole<'n, 'a> {
 }
 
 /// Whether pieces are a `[*]` as a whole.
-fn is_whole(pieces: &[Piece]) -> bool
+fn is_whole(pieces: &[Piece<'_>]) -> bool
     ensures { result ≡ is_some (whole_of pieces.now) }
 {
     match pieces {
-        [Piece::Ref(reference)] => reference.parts.ends_with_star(),
+        [only] => match only {
+            Piece::Ref(reference) => reference.parts.ends_with_star(),
+            Piece::Plain(_) => false,
+        },
         _ => false,
     }
 }

@@ -29,7 +29,7 @@ trait Kind {
     ghost holds: { Self → Reference → Bool };
 
     /// Whether a reference is of the kind.
-    fn holds(&self, reference: &Reference) -> bool
+    fn holds(&self, reference: &Reference<'_>) -> bool
         ensures { result ≡ holds self.now reference.now };
 }
 
@@ -40,13 +40,13 @@ struct Status;
 impl Kind for Status {
     ghost holds = { λ kind. names_status };
 
-    fn holds(&self, reference: &Reference) -> bool {
+    fn holds(&self, reference: &Reference<'_>) -> bool {
         is_status(reference.parts.as_slice())
     }
 }
 
 /// Whether a reference is to a result of one of these tasks.
-fn names_result_of(lasts: &NameSet<'_>, reference: &Reference) -> bool
+fn names_result_of(lasts: &NameSet<'_>, reference: &Reference<'_>) -> bool
     ensures { result ≡ names_result_of lasts.now reference.now }
 {
     match task_of(reference.parts.as_slice()) {
@@ -65,7 +65,7 @@ struct OfFinally<'n, 'a> {
 impl<'n, 'a> Kind for OfFinally<'n, 'a> {
     ghost holds = { λ kind. refused_in_own kind.lasts.now kind.may_name_status };
 
-    fn holds(&self, reference: &Reference) -> bool {
+    fn holds(&self, reference: &Reference<'_>) -> bool {
         if self.may_name_status {
             return names_result_of(self.lasts, reference);
         }
@@ -74,7 +74,7 @@ impl<'n, 'a> Kind for OfFinally<'n, 'a> {
 }
 
 /// Whether a piece is a reference of the kind.
-fn is_of_kind<K: Kind>(kind: &K, piece: &Piece) -> bool
+fn is_of_kind<K: Kind>(kind: &K, piece: &Piece<'_>) -> bool
     ensures { result ≡ list_any (K.holds kind.now) (filter_map referenced (piece.now ∷ [])) }
 {
     match piece {
@@ -84,7 +84,7 @@ fn is_of_kind<K: Kind>(kind: &K, piece: &Piece) -> bool
 }
 
 /// Whether some piece is one.
-fn has_kind<K: Kind>(kind: &K, pieces: &[Piece]) -> bool
+fn has_kind<K: Kind>(kind: &K, pieces: &[Piece<'_>]) -> bool
     ensures { result ≡ list_any (K.holds kind.now) (filter_map referenced pieces.now) }
 {
     for piece in pieces {

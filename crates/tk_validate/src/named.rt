@@ -9,7 +9,7 @@ use tk_vars::{Piece, Pieces, Reference, ScanError, scan};
 
 /// The pieces of a text, if it has a reading.
 #[tactic(auto, unfolding(crate::specs::Named::read_references, crate::specs::Named::whole_read))]
-pub(crate) fn read(alloc: Global, text: &str) -> Result<Option<Pieces>, AllocError>
+pub(crate) fn read(alloc: Global, text: &str) -> Result<Option<Pieces<'_>>, AllocError>
     ensures references { IfOk result (λ pieces. read_references text.now ≡ option_map_or (λ ps. filter_map referenced ps) pieces []) }
     ensures whole { IfOk result (λ pieces. whole_read text.now ≡ option_and_then whole_of pieces) }
 {

@@ -74,11 +74,14 @@ pub(crate) fn pipeline_seen(
 }
 
 /// The reference that is all of some pieces and ends with `[*]`.
-fn whole_of(pieces: &[Piece]) -> Option<&Reference>
+fn whole_of<'p, 't>(pieces: &'p [Piece<'t>]) -> Option<&'p Reference<'t>>
     ensures { option_copied result ≡ whole_of pieces.now }
 {
     match pieces {
-        [Piece::Ref(reference)] if reference.parts.ends_with_star() => Some(reference),
+        [only] => match only {
+            Piece::Ref(reference) if reference.parts.ends_with_star() => Some(reference),
+            _ => None,
+        },
         _ => None,
     }
 }

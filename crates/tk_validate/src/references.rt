@@ -17,7 +17,7 @@ trait Test {
     ghost passes: { Self → Reference → Bool };
 
     /// Whether a reference passes. The only error is want of memory.
-    fn holds(&self, alloc: Global, reference: &Reference) -> Result<bool, AllocError>
+    fn holds(&self, alloc: Global, reference: &Reference<'_>) -> Result<bool, AllocError>
         ensures { IfOk result (λ holds. holds ≡ passes self.now reference.now) };
 }
 
@@ -30,7 +30,7 @@ struct Visible<'s, 'l, 'i, 'm, 'o, 'w, 't> {
 impl<'s, 'l, 'i, 'm, 'o, 'w, 't> Test for Visible<'s, 'l, 'i, 'm, 'o, 'w, 't> {
     ghost passes = { λ test. is_visible test.names.now };
 
-    fn holds(&self, alloc: Global, reference: &Reference) -> Result<bool, AllocError> {
+    fn holds(&self, alloc: Global, reference: &Reference<'_>) -> Result<bool, AllocError> {
         self.names.is_visible(alloc, reference)
     }
 }
@@ -45,17 +45,17 @@ struct WellTyped<'s, 'l, 'i, 'm, 'o, 'w, 't> {
 impl<'s, 'l, 'i, 'm, 'o, 'w, 't> Test for WellTyped<'s, 'l, 'i, 'm, 'o, 'w, 't> {
     ghost passes = { λ test. is_well_typed test.names.now test.whole };
 
-    fn holds(&self, alloc: Global, reference: &Reference) -> Result<bool, AllocError> {
+    fn holds(&self, alloc: Global, reference: &Reference<'_>) -> Result<bool, AllocError> {
         self.names.is_well_typed(alloc, self.whole, reference)
     }
 }
 
 /// A piece's reference, if it is one that doesn't pass.
-fn failing_in<'p, T: Test>(
+fn failing_in<'p, 't, T: Test>(
     alloc: Global,
     test: &T,
-    piece: &'p Piece,
-) -> Result<Option<&'p Reference>, AllocError>
+    piece: &'p Piece<'t>,
+) -> Result<Option<&'p Reference<'t>>, AllocError>
     ensures { IfOk result (λ found. option_copied found ≡ find (λ r. not (T.passes test.now r)) (filter_map referenced (piece.now ∷ []))) }
 {
     let Piece::Ref(reference) = piece else {
@@ -68,11 +68,11 @@ fn failing_in<'p, T: Test>(
 }
 
 /// The first reference of some pieces that doesn't pass.
-fn first_failing<'p, T: Test>(
+fn first_failing<'p, 't, T: Test>(
     alloc: Global,
     test: &T,
-    pieces: &'p [Piece],
-) -> Result<Option<&'p Reference>, AllocError>
+    pieces: &'p [Piece<'t>],
+) -> Result<Option<&'p Reference<'t>>, AllocError>
     ensures { IfOk result (λ found. option_copied found ≡ find (λ r. not (T.passes test.now r)) (filter_map referenced pieces.now)) }
 {
     for piece in pieces {
@@ -84,33 +84,33 @@ fn first_failing<'p, T: Test>(
 }
 
 /// The first reference of some pieces to what isn't in a scope. The only error is want of memory.
-pub(crate) fn first_unknown<'p>(
+pub(crate) fn first_unknown<'p, 't>(
     alloc: Global,
     names: &Names<'_, '_, '_, '_, '_, '_>,
-    pieces: &'p [Piece],
-) -> Result<Option<&'p Reference>, AllocError>
+    pieces: &'p [Piece<'t>],
+) -> Result<Option<&'p Reference<'t>>, AllocError>
     ensures { IfOk result (λ found. option_copied found ≡ find (λ r. not (is_visible names.now r)) (filter_map referenced pieces.now)) }
 {
     first_failing(alloc, &Visible { names }, pieces)
 }
 
 /// The first reference of some pieces that isn't used by its type. The only error is want of memory.
-pub(crate) fn first_mistyped<'p>(
+pub(crate) fn first_mistyped<'p, 't>(
     alloc: Global,
     names: &Names<'_, '_, '_, '_, '_, '_>,
     whole: bool,
-    pieces: &'p [Piece],
-) -> Result<Option<&'p Reference>, AllocError>
+    pieces: &'p [Piece<'t>],
+) -> Result<Option<&'p Reference<'t>>, AllocError>
     ensures { IfOk result (λ found. option_copied found ≡ find (λ r. not (is_well_typed names.now whole r)) (filter_map referenced pieces.now)) }
 {
     first_failing(alloc, &WellTyped { names, whole }, pieces)
 }
 
 /// The first task that some pieces name and that isn't there.
-pub(crate) fn first_unknown_task<'p>(
+pub(crate) fn first_unknown_task<'p, 't>(
     names: &Names<'_, '_, '_, '_, '_, '_>,
     firsts: &NameSet<'_>,
-    pieces: &'p [Piece],
+    pieces: &'p [Piece<'t>],
 ) -> Option<&'p str>
     ensures { option_map (λ task. task.now) result ≡ first_of (map (unknown_of firsts.now names.now) (filter_map referenced pieces.now)) }
 {

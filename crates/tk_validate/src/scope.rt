@@ -47,7 +47,7 @@ impl<'l, 'i, 'm, 'o, 'w, 't> Names<'l, 'i, 'm, 'o, 'w, 't> {
     }
 
     /// Whether the parameter of this name may have such a selector.
-    fn allows(&self, name: &str, selector: &[Part]) -> bool
+    fn allows(&self, name: &str, selector: &[Part<'_>]) -> bool
         ensures { result ≡ is_typed_target self.now (param name.now selector.now) }
     {
         allows(&self.seen, name, selector)
@@ -81,7 +81,7 @@ impl<'l, 'i, 'm, 'o, 'w, 't> Names<'l, 'i, 'm, 'o, 'w, 't> {
     pub(crate) fn is_visible(
         &self,
         alloc: Global,
-        reference: &Reference,
+        reference: &Reference<'_>,
     ) -> Result<bool, AllocError>
         ensures { IfOk result (λ seen. seen ≡ is_visible self.now reference.now) }
     {
@@ -113,7 +113,7 @@ impl<'l, 'i, 'm, 'o, 'w, 't> Names<'l, 'i, 'm, 'o, 'w, 't> {
         &self,
         alloc: Global,
         whole: bool,
-        reference: &Reference,
+        reference: &Reference<'_>,
     ) -> Result<bool, AllocError>
         ensures { IfOk result (λ typed. typed ≡ is_well_typed self.now whole reference.now) }
     {
@@ -123,10 +123,10 @@ impl<'l, 'i, 'm, 'o, 'w, 't> Names<'l, 'i, 'm, 'o, 'w, 't> {
 
     /// The task that a reference names and that isn't there: that of a result isn't in the scope, or that of a status
     /// isn't one of these.
-    pub(crate) fn unknown_of<'r>(
+    pub(crate) fn unknown_of<'r, 'x>(
         &self,
         firsts: &NameSet<'_>,
-        reference: &'r Reference,
+        reference: &'r Reference<'x>,
     ) -> Option<&'r str>
         ensures { option_map (λ task. task.now) result ≡ unknown_of firsts.now self.now reference.now }
     {
@@ -158,7 +158,7 @@ fn has_param(seen: &Layers<'_, '_, '_, '_>, name: &str) -> bool
 }
 
 /// Whether a value of the type that is known may have such a selector.
-fn suits_known(kind: Option<ParamType>, selector: &[Part]) -> bool
+fn suits_known(kind: Option<ParamType>, selector: &[Part<'_>]) -> bool
     ensures { result ≡ option_map_or (λ k. suits k selector.now) kind true }
 {
     match kind {
@@ -168,7 +168,7 @@ fn suits_known(kind: Option<ParamType>, selector: &[Part]) -> bool
 }
 
 /// Whether the parameter of this name may have such a selector.
-fn allows(seen: &Layers<'_, '_, '_, '_>, name: &str, selector: &[Part]) -> bool
+fn allows(seen: &Layers<'_, '_, '_, '_>, name: &str, selector: &[Part<'_>]) -> bool
     ensures { result ≡ (is_in (untyped_of seen.now) name.now || option_map_or (λ p. suits p.kind selector.now) (declared (filter_map typed_of seen.now) name.now) true) }
 {
     suits_known(seen.kind(name), selector)

@@ -41,7 +41,7 @@ pub(crate) fn told_name(alloc: Global, number: u8, place: &Location<'_>, name: &
 fn check_visible(
     alloc: Global,
     names: &Names<'_, '_, '_, '_, '_, '_>,
-    pieces: &[Piece],
+    pieces: &[Piece<'_>],
     place: &Location<'_>,
 ) -> Result<(), Rejected>
     ensures { Reads (visible_finding names.now pieces.now place.now) tt result }
@@ -57,7 +57,7 @@ fn check_tasks(
     alloc: Global,
     names: &Names<'_, '_, '_, '_, '_, '_>,
     firsts: &NameSet<'_>,
-    pieces: &[Piece],
+    pieces: &[Piece<'_>],
     place: &Location<'_>,
 ) -> Result<(), Rejected>
     ensures { Reads (tasks_finding firsts.now names.now pieces.now place.now) tt result }
@@ -73,7 +73,7 @@ fn check_typed(
     alloc: Global,
     names: &Names<'_, '_, '_, '_, '_, '_>,
     whole: bool,
-    pieces: &[Piece],
+    pieces: &[Piece<'_>],
     place: &Location<'_>,
 ) -> Result<(), Rejected>
     ensures { Reads (types_finding names.now whole pieces.now place.now) tt result }
@@ -90,7 +90,7 @@ fn check_pieces(
     names: &Names<'_, '_, '_, '_, '_, '_>,
     firsts: &NameSet<'_>,
     whole: bool,
-    pieces: &[Piece],
+    pieces: &[Piece<'_>],
     place: &Location<'_>,
 ) -> Result<(), Rejected>
     ensures { Reads (pieces_finding firsts.now names.now whole pieces.now place.now) tt result }
@@ -101,7 +101,7 @@ fn check_pieces(
 }
 
 /// The pieces of a text; one without a reading is refused where a reference must stand.
-fn scanned(alloc: Global, text: &str, place: &Location<'_>) -> Result<Pieces, Rejected>
+fn scanned<'t>(alloc: Global, text: &'t str, place: &Location<'_>) -> Result<Pieces<'t>, Rejected>
     ensures pieces { IfOk result (λ pieces. pieces ≡ pieces_of text.now) }
     ensures good { OnOk result (bad_offset text.now ≡ None) }
     ensures refused { IfErr result (IsRefusal (option_map (bad_reference place.now) (bad_offset text.now))) }

@@ -112,6 +112,28 @@ past_dollar text done plain rest part after scanned split free =
     subst (λ p. IsScanned text done p after) (sym (append_assoc plain part (36 ∷ [])))
     (quiet_step text done plain (part ++ 36 ∷ []) after (subst (IsScanned text done plain) (split.text_is ∙ sym (append_assoc part (36 ∷ []) after)) scanned) (quiet_dollar part after split.other free))
 
+-- the same where the plain bytes are the front of a part of the text that ends with the rest
+pub record IsScannedTo (text : List ℕ) (done : List Piece) (from rest : List ℕ) : Type 0 where
+  pub plain : List ℕ
+  pub from_is : from ≡ plain ++ rest
+  pub scanned : IsScanned text done plain rest
+
+pub nothing_scanned : (text : List ℕ) → IsScannedTo text [] text text
+nothing_scanned text = record { plain = []; from_is = refl; scanned = scanned_nothing text }
+
+-- past a `$` that stays
+pub to_after : (text : List ℕ) (done : List Piece) (from rest part after : List ℕ) → IsScannedTo text done from rest → IsSplitAt 36 rest part after → must_stand (36 ∷ after) ≡ false → IsScannedTo text done from after
+to_after text done from rest part after to split free =
+    record {
+      plain = (to.plain ++ part) ++ 36 ∷ [];
+      from_is = to.from_is ∙ (ap (λ t. to.plain ++ t) split.text_is ∙ (sym (append_assoc to.plain part (36 ∷ after)) ∙ sym (append_assoc (to.plain ++ part) (36 ∷ []) after)));
+      scanned = past_dollar text done to.plain rest part after to.scanned split free;
+    }
+
+-- the plain bytes in front of a `$`
+pub plain_before : (text : List ℕ) (done : List Piece) (from rest part after : List ℕ) (to : IsScannedTo text done from rest) → IsSplitAt 36 rest part after → from ≡ (to.plain ++ part) ++ 36 ∷ after
+plain_before text done from rest part after to split = to.from_is ∙ (ap (λ t. to.plain ++ t) split.text_is ∙ sym (append_assoc to.plain part (36 ∷ after)))
+
 -- whether a reference stands, said of the whole text and of what follows
 
 abbrev standing_in : List ℕ → List ℕ → Bool

@@ -23,11 +23,11 @@ none_is k (x ∷ xs) other =
     and_both (not (x == k)) (list_all (λ c. not (c == k)) xs) (ap not (ne_eqb x k (other 0 (omega arith)))) (none_is k xs (λ i lt e. other (suc i) (omega arith) e))
 
 -- a reference stands where its `)` is found
-record IsFound (after inner rest : List ℕ) : Type 0 where
-  found : reference_at (36 ∷ after) ≡ reference_of inner
-  whole : 36 ∷ after ≡ (reference_of inner).spelling ++ rest
+pub record IsFound (after inner rest : List ℕ) : Type 0 where
+  pub found : reference_at (36 ∷ after) ≡ reference_of inner
+  pub whole : 36 ∷ after ≡ (reference_of inner).spelling ++ rest
 
-found_reference : (after front inner rest : List ℕ) → after ≡ front ++ 41 ∷ rest → list_all in_reference front ≡ true → front ≡ 40 ∷ inner → IsFound after inner rest
+pub found_reference : (after front inner rest : List ℕ) → after ≡ front ++ 41 ∷ rest → list_all in_reference front ≡ true → front ≡ 40 ∷ inner → IsFound after inner rest
 found_reference after front inner rest after_is inside front_is =
     let text : after ≡ 40 ∷ inner ++ 41 ∷ rest = after_is ∙ ap (λ f. f ++ 41 ∷ rest) front_is in
     let within : list_all in_reference inner ≡ true = and_second (in_reference 40) (list_all in_reference inner) (subst (λ f. list_all in_reference f ≡ true) front_is inside) in

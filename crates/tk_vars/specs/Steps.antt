@@ -123,3 +123,7 @@ plain_pieces (b ∷ bs) = Plain (b ∷ bs) ∷ []
 pub record IsSplitAt (byte : ℕ) (text front rest : List ℕ) : Type 0 where
   pub text_is : text ≡ front ++ byte ∷ rest
   pub other : list_all (λ b. not (b == byte)) front ≡ true
+
+-- the text ends with this rest
+abbrev pub EndsWith : List ℕ → List ℕ → Type 0
+EndsWith text rest = (front : List ℕ) × (text ≡ front ++ rest)

@@ -6,11 +6,11 @@ use std::marker::Model;
 
 /// The parts of a reference, that contracts see as a list.
 #[derive(Debug, Drop)]
-pub struct Parts {
-    items: Vec<Part>,
+pub struct Parts<'t> {
+    items: Vec<Part<'t>>,
 }
 
-impl Model for Parts {
+impl<'t> Model for Parts<'t> {
     ghost use Rattle.std.specs.Prelude.{List};
     ghost use Rattle.tk_vars.specs.declared.part.Part.{Part};
 
@@ -19,23 +19,23 @@ impl Model for Parts {
     ghost view = { λ l. l.items.items };
 }
 
-impl Parts {
+impl<'t> Parts<'t> {
     /// These parts, without a copy.
-    pub fn from_vec(items: Vec<Part>) -> Self
-        ensures { result ≡ items.items }
+    pub fn from_vec(items: Vec<Part<'t>>) -> Self
+        ensures { result ≡ items.entry.items }
     {
         Parts { items }
     }
 
     /// The parts themselves, without a copy.
-    pub fn into_vec(self) -> Vec<Part>
-        ensures { result.items ≡ self }
+    pub fn into_vec(self) -> Vec<Part<'t>>
+        ensures { result.items ≡ self.entry }
     {
         self.items
     }
 
     /// The parts, borrowed.
-    pub fn as_slice(&self) -> &[Part]
+    pub fn as_slice(&self) -> &[Part<'t>]
         ensures { result.now ≡ self.now }
     {
         self.items.as_slice()

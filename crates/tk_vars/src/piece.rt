@@ -3,9 +3,9 @@ use crate::word::Word;
 
 /// One piece of a text.
 #[derive(Debug, Drop)]
-pub enum Piece {
+pub enum Piece<'t> {
     /// Text that stays as it is written.
-    Plain(Word),
+    Plain(Word<'t>),
     /// A reference.
-    Ref(Reference),
+    Ref(Reference<'t>),
 }

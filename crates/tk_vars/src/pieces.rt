@@ -5,11 +5,11 @@ use std::marker::Model;
 
 /// The pieces of a text, that contracts see as a list.
 #[derive(Debug, Drop)]
-pub struct Pieces {
-    items: Vec<Piece>,
+pub struct Pieces<'t> {
+    items: Vec<Piece<'t>>,
 }
 
-impl Model for Pieces {
+impl<'t> Model for Pieces<'t> {
     ghost use Rattle.std.specs.Prelude.{List};
     ghost use Rattle.tk_vars.specs.declared.piece.Piece.{Piece};
 
@@ -18,23 +18,23 @@ impl Model for Pieces {
     ghost view = { λ l. l.items.items };
 }
 
-impl Pieces {
+impl<'t> Pieces<'t> {
     /// These pieces, without a copy.
-    pub fn from_vec(items: Vec<Piece>) -> Self
-        ensures { result ≡ items.items }
+    pub fn from_vec(items: Vec<Piece<'t>>) -> Self
+        ensures { result ≡ items.entry.items }
     {
         Pieces { items }
     }
 
     /// The pieces themselves, without a copy.
-    pub fn into_vec(self) -> Vec<Piece>
-        ensures { result.items ≡ self }
+    pub fn into_vec(self) -> Vec<Piece<'t>>
+        ensures { result.items ≡ self.entry }
     {
         self.items
     }
 
     /// The pieces, borrowed.
-    pub fn as_slice(&self) -> &[Piece]
+    pub fn as_slice(&self) -> &[Piece<'t>]
         ensures { result.now ≡ self.now }
     {
         self.items.as_slice()

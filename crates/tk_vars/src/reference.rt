@@ -3,9 +3,9 @@ use crate::word::Word;
 
 /// A reference.
 #[derive(Debug, Drop)]
-pub struct Reference {
+pub struct Reference<'t> {
     /// As it is written, from `$(` to `)`.
-    pub spelling: Word,
+    pub spelling: Word<'t>,
     /// The head and what follows it.
-    pub parts: Parts,
+    pub parts: Parts<'t>,
 }

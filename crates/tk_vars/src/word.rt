@@ -1,56 +1,33 @@
-ghost use Rattle.std.specs.Prelude.{◌≡◌, IfOk, string_bytes};
+ghost use Rattle.std.specs.Prelude.{◌≡◌};
 
-use std::alloc::{AllocError, Global};
 use std::marker::Model;
 
-/// A text that contracts see as the list of its bytes.
+/// A part of a text, that contracts see as the list of its bytes.
 #[derive(Debug, Drop)]
-pub struct Word {
-    inner: String,
+pub struct Word<'t> {
+    inner: &'t str,
 }
 
-impl Model for Word {
-    ghost use Rattle.std.specs.Prelude.{List, ℕ, string_bytes};
+impl<'t> Model for Word<'t> {
+    ghost use Rattle.std.specs.Prelude.{List, ℕ};
 
     ghost Value = { List ℕ };
 
-    ghost view = { λ w. string_bytes w.inner };
+    ghost view = { λ w. w.inner.now };
 }
 
-impl Word {
-    /// The text as a word, without a copy.
-    pub fn from_string(inner: String) -> Self
-        ensures { result ≡ string_bytes inner }
+impl<'t> Word<'t> {
+    /// The text as a word.
+    pub fn new(inner: &'t str) -> Self
+        ensures { result ≡ inner.now }
     {
         Word { inner }
     }
 
-    /// A copy of the text.
-    pub fn from_str(alloc: Global, text: &str) -> Result<Self, AllocError>
-        ensures { IfOk result (λ word. word ≡ text.now) }
-    {
-        let inner = String::from_str(alloc, text)?;
-        Ok(Word { inner })
-    }
-
-    /// The text itself, without a copy.
-    pub fn into_string(self) -> String
-        ensures { string_bytes result ≡ self }
-    {
-        self.inner
-    }
-
-    /// The text, borrowed.
-    pub fn as_str(&self) -> &str
+    /// The text itself.
+    pub fn as_str(&self) -> &'t str
         ensures { result.now ≡ self.now }
     {
-        self.inner.as_str()
-    }
-
-    /// An equal word.
-    pub fn copy(&self, alloc: Global) -> Result<Self, AllocError>
-        ensures { IfOk result (λ word. word ≡ self.now) }
-    {
-        Word::from_str(alloc, self.as_str())
+        self.inner
     }
 }

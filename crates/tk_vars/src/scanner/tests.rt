@@ -164,10 +164,7 @@ fn scans_a_long_text(rt: HostRuntime) -> Result<(), Fail> {
 
 #[test]
 fn gives_what_it_was_made_of(rt: HostRuntime) -> Result<(), Fail> {
-    let word = Word::from_str(rt.alloc(), "r")?
-        .copy(rt.alloc())?
-        .into_string();
-    let name = Part::Name(Word::from_string(word));
+    let name = Part::Name(Word::new("r"));
     assert!(rt; !name.is_star());
     let parts = Parts::from_vec(vec![in rt.alloc(); name, Part::Star]?);
     assert!(rt; parts.ends_with_star());

@@ -9,15 +9,15 @@ word_of-requires c = name_text c.in-Some.name.now (dotted_first c.args.tail.now 
 
 pub returns-in-Some : goal.returns-in-Some
 returns-in-Some c =
-    subst (λ n. IsFirstPart c.args.tail.now (Name n) c.in-Some.rest.now) (sym c.in_ok-name.ensures) (dotted_first c.args.tail.now c.in-Some.name.now c.in-Some.rest.now c.requires c.in-Some.ensures.found).first
+    subst (λ n. IsFirstPart c.args.tail.now (Name n) c.in-Some.rest.now) (sym c.word_of.ensures) (dotted_first c.args.tail.now c.in-Some.name.now c.in-Some.rest.now c.requires c.in-Some.ensures.found).first
 
 pub bracketed-requires : goal.bracketed-requires
 bracketed-requires c = let split = c.in-Some-split_bracketed in (bracketed_first c.args.tail.now split.inner.now split.rest.now c.requires split.ensures.found).inside
 
-pub returns-in_ok-part-in-Some-split_bracketed : goal.returns-in_ok-part-in-Some-split_bracketed
-returns-in_ok-part-in-Some-split_bracketed c =
+pub returns-in-Some-split_bracketed : goal.returns-in-Some-split_bracketed
+returns-in-Some-split_bracketed c =
     let split = c.in-Some-split_bracketed in
-    subst (λ p. IsFirstPart c.args.tail.now p split.rest.now) (sym c.in_ok-part-in-Some-split_bracketed.ensures) (bracketed_first c.args.tail.now split.inner.now split.rest.now c.requires split.ensures.found).first
+    subst (λ p. IsFirstPart c.args.tail.now p split.rest.now) (sym c.bracketed.ensures) (bracketed_first c.args.tail.now split.inner.now split.rest.now c.requires split.ensures.found).first
 
 pub returns-in-None : goal.returns-in-None
 returns-in-None c = none_first c.args.tail.now c.requires c.in_default.ensures.none c.in-None.ensures.none

@@ -12,9 +12,9 @@ parts_of-requires-clause-head c = letters_text c.split_head.result.0.now c.split
 pub parts_of-requires-clause-tail : goal.parts_of-requires-clause-tail
 parts_of-requires-clause-tail c =
     reference_tail c.as_bytes.result.now c.split_head.result.0.now c.split_head.result.1.now c.split_head.ensures
-    (subst (λ t. is_reference (reference_of t) ≡ true) (sym c.as_bytes.ensures.value) c.requires)
+    (subst (λ t. is_reference (reference_of t) ≡ true) (sym c.as_bytes.ensures.value) c.requires.reference)
 
 pub returns : goal.returns
 returns c =
-    whole_reference c.as_bytes.result.now c.split_head.result.0.now c.split_head.result.1.now c.from_string.result c.in_ok-parts.parts c.split_head.ensures (c.from_string.ensures ∙ (c.in_ok-spelling.ensures.ok ∙ ap (λ t. codes "$(" ++ t ++ codes ")") (sym c.as_bytes.ensures.value))) c.in_ok-parts.ensures
+    whole_reference c.as_bytes.result.now c.split_head.result.0.now c.split_head.result.1.now c.new.result c.in_ok-parts.parts c.split_head.ensures (c.new.ensures ∙ (c.requires.spelling ∙ ap (λ t. codes "$(" ++ t ++ codes ")") (sym c.as_bytes.ensures.value))) c.in_ok-parts.ensures
     ∙ ap reference_of c.as_bytes.ensures.value

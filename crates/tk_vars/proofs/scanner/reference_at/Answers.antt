@@ -1,8 +1,9 @@
-use Rattle.std.proofs.Common.{◌≡◌, true, false, ◌||◌, ◌&&◌, not, length, sym, ◌∙◌, ap}
-use Rattle.std.specs.Prelude.{◌==◌}
+use Rattle.std.proofs.Common.{◌≡◌, true, false, ◌||◌, ◌&&◌, not, ◌++◌, length, sym, ◌∙◌, ap}
+use Rattle.std.specs.Prelude.{◌==◌, codes}
 use Rattle.tk_vars.specs.Grammar.{is_reference}
 use Rattle.tk_vars.specs.Reading.{reference_of, ends_with_star}
-use Rattle.tk_vars.proofs.StandFacts.{no_end, no_beginning, no_reference, no_place, first_reference}
+use Rattle.std.proofs.lemmas.List.{append_cancel_right}
+use Rattle.tk_vars.proofs.StandFacts.{IsFound, found_reference, no_end, no_beginning, no_reference, no_place, first_reference}
 use Rattle.tk_vars.proofs.scanner.reference_at.Goals as goal
 
 pub returns-in_default : goal.returns-in_default
@@ -32,3 +33,17 @@ returns c =
     let may : (not (ends_with_star reference.parts) || (c.args.is_first && (length c.in-Some.rest.now == 0))) ≡ true =
     ap (λ t. not (ends_with_star reference.parts) || t) (sym c.is_whole.ensures) ∙ (sym c.may_stand.ensures ∙ c.if-not-may_stand.false) in
     first_reference c.args.is_first c.args.after.now c.in-Some.front.now inner c.in-Some.rest.now reference c.in-Some.ensures.found.text_is c.in-Some.ensures.found.other c.in-Some-behind_parenthesis.ensures ok c.in_ok-reference.ensures may
+
+pub in_front-requires : goal.in_front-requires
+in_front-requires c =
+    let inner = c.in-Some-behind_parenthesis.inner.now in
+    let found : IsFound c.args.after.now inner c.in-Some.rest.now =
+    found_reference c.args.after.now c.in-Some.front.now inner c.in-Some.rest.now c.in-Some.ensures.found.text_is c.in-Some.ensures.found.other c.in-Some-behind_parenthesis.ensures in
+    ((reference_of inner).spelling, c.requires ∙ found.whole)
+
+pub reference_of-requires-clause-spelling : goal.reference_of-requires-clause-spelling
+reference_of-requires-clause-spelling c =
+    let inner = c.in-Some-behind_parenthesis.inner.now in
+    let found : IsFound c.args.after.now inner c.in-Some.rest.now =
+    found_reference c.args.after.now c.in-Some.front.now inner c.in-Some.rest.now c.in-Some.ensures.found.text_is c.in-Some.ensures.found.other c.in-Some-behind_parenthesis.ensures in
+    append_cancel_right c.in_front.result.now (codes "$(" ++ inner ++ codes ")") c.in-Some.rest.now (c.in_front.ensures ∙ (c.requires ∙ found.whole))
