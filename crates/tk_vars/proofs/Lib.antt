@@ -13,4 +13,5 @@ pub mod SplitFacts
 pub mod StandFacts
 pub mod TableFacts
 pub mod TailFacts
+pub mod TaskFacts
 pub mod TextFacts

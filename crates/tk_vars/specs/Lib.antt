@@ -4,3 +4,4 @@ pub mod Reading
 pub mod Refusal
 pub mod Steps
 pub mod Target
+pub mod Task

@@ -17,6 +17,7 @@ mod pieces;
 mod reference;
 mod scanner;
 mod splitting;
+mod tasks;
 mod word;
 
 pub use error::ScanError;
@@ -25,5 +26,6 @@ pub use parts::Parts;
 pub use piece::Piece;
 pub use pieces::Pieces;
 pub use reference::Reference;
-pub use scanner::scan;
+pub use scanner::{is_plain, scan};
+pub use tasks::names_no_task;
 pub use word::Word;

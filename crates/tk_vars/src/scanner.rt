@@ -1,4 +1,7 @@
-ghost use Rattle.std.specs.Prelude.{◌≡◌, ◌==◌, ◌&&◌, ◌||◌, not, false, [], ◌∷◌, ◌++◌, length, OnOk, IfOk, IfErr, IsOkUnless, MatchOption, flat_map};
+ghost use Rattle.std.specs.Prelude.{◌≡◌, ◌==◌, ◌&&◌, ◌||◌, not, false, [], ◌∷◌, ◌++◌, length, OnOk, IfOk, IfErr, IsOkUnless, IsTrue, None, MatchOption, flat_map};
+ghost use Rattle.std.specs.List.{list_all};
+ghost use Rattle.tk_vars.specs.Offset.{bad_offset};
+ghost use Rattle.tk_vars.specs.Target.{references_of};
 ghost use Rattle.tk_vars.specs.Reading.{Reads, HasReading, pieces_of, spelling_of, ends_with_star};
 ghost use Rattle.tk_vars.specs.Refusal.{IsRefusal, TellsOffset};
 ghost use Rattle.tk_vars.specs.Steps.{stands_first, EndsWith, IsFirstReference, IsSplitAt, plain_pieces};
@@ -11,6 +14,7 @@ use crate::pieces::Pieces;
 use crate::reference::Reference;
 use crate::splitting::{behind_parenthesis, split_dollar, split_end};
 use crate::word::Word;
+use memchr::memchr;
 use std::alloc::{AllocError, Global};
 
 /// Whether the reference may stand there: one that ends with `[*]` only as the whole text.
@@ -78,6 +82,25 @@ fn add_plain<'t>(pieces: &mut Vec<Piece<'t>>, plain: &'t str) -> Result<(), Allo
     }
     pieces.push(Piece::Plain(Word::new(plain)))?;
     Ok(())
+}
+
+/// Whether no byte of a text is a `$`.
+fn has_no_dollar(text: &str) -> bool
+    ensures { result ≡ list_all (λ b. not (b == 36)) text.now }
+{
+    match memchr(b'$', text.as_bytes()) {
+        Some(_) => false,
+        None => true,
+    }
+}
+
+/// Whether a text has no `$`. Such a text has a reading, and no reference stands in it.
+pub fn is_plain(text: &str) -> bool
+    ensures exact { result ≡ list_all (λ b. not (b == 36)) text.now }
+    ensures reading { IsTrue result → bad_offset text.now ≡ None }
+    ensures references { IsTrue result → references_of text.now ≡ [] }
+{
+    has_no_dollar(text)
 }
 
 /// Splits a text into plain pieces and references, which refer to the text (Tekton, Pipelines, Variable Substitutions Supported by Tasks and
