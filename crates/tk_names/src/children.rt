@@ -57,7 +57,9 @@ pub fn child_name(
 fn whole_name(alloc: Global, run: &str, task: &str) -> Result<String, AllocError>
     ensures { IfOk result (λ name. string_bytes name ≡ whole_child_name run.now task.now None) }
 {
-    let mut whole = String::from_str(alloc, run)?;
+    let length = run.len().saturating_add(task.len()).saturating_add(1);
+    let mut whole = String::with_capacity(alloc, length)?;
+    whole.push_str(run)?;
     whole.push_str("-")?;
     whole.push_str(task)?;
     Ok(whole)
