@@ -22,7 +22,7 @@ pub fn elements_of(value: &Value) -> Option<&[Value]>
     }
 }
 
-/// What the elements say, each at its index.
+/// What the elements say, each at its index; copies share them.
 fn read_elements<R: Reader>(
     alloc: Global,
     items: &[Value],
@@ -30,12 +30,12 @@ fn read_elements<R: Reader>(
 ) -> Result<List<R::Out>, Rejected>
     ensures { Reads (first_in R.check place.now (map view items.now)) (map R.value_of (map view items.now)) result }
 {
-    let mut values = List::new(alloc);
+    let mut values = Vec::new(alloc);
     for item in items {
         let index = values.len() as u64;
         values.push(R::read(alloc, item, &(&*place).at(index))?)?;
     }
-    Ok(values)
+    Ok(List::from_vec(values).share(alloc)?)
 }
 
 /// An array of any length.

@@ -29,7 +29,7 @@ pub trait Entry {
         ensures { result ≡ made key value };
 }
 
-/// What the members say, in key order, each at its key.
+/// What the members say, in key order, each at its key; copies share them.
 fn read_members<E: Entry>(
     alloc: Global,
     object: &Map<String, Value>,
@@ -38,12 +38,12 @@ fn read_members<E: Entry>(
     ensures { Reads (first_member E.Form.check place.now (members (json_object (members_view object.now.entries))))
         (members_of E.made E.Form.value_of (json_object (members_view object.now.entries))) result }
 {
-    let mut values = List::new(alloc);
+    let mut values = Vec::new(alloc);
     for (key, value) in object.iter() {
         let read = E::Form::read(alloc, value, &place.key(key.as_str()))?;
         values.push(E::make(Text::from_str(alloc, key.as_str())?, read))?;
     }
-    Ok(values)
+    Ok(List::from_vec(values).share(alloc)?)
 }
 
 /// An object whose keys may be any, and whose values have one form.
