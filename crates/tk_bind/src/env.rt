@@ -1,4 +1,5 @@
-use tk_types::{List, Pair, Param, Text, Value};
+use std::alloc::{AllocError, Global};
+use tk_types::{List, Pair, Param, Text, TryCopy, Value};
 
 /// An available result of a task.
 #[derive(Drop)]
@@ -6,6 +7,16 @@ pub struct Given {
     pub task: Text,
     pub name: Text,
     pub value: Value,
+}
+
+impl TryCopy for Given {
+    fn copy(&self, alloc: Global) -> Result<Given, AllocError> {
+        Ok(Given {
+            task: self.task.copy(alloc)?,
+            name: self.name.copy(alloc)?,
+            value: self.value.copy(alloc)?,
+        })
+    }
 }
 
 /// The values that references take. Of parameters and results of one name the first counts. A word is a context, status,

@@ -15,23 +15,35 @@ use std::alloc::{AllocError, Global};
 use tk_types::{List, Pair, Param, ResultSpec, SpaceSpec, Step, TaskBody, Text, TryCopy};
 
 /// A word that has a value, whatever it is.
-fn some_word(alloc: Global, key: &str) -> Result<Pair, AllocError>
+fn some_word(alloc: Global, key: Text) -> Pair
+    ensures { result ≡ some_word key }
+{
+    Pair {
+        key,
+        value: Text::new(alloc),
+    }
+}
+
+/// The word of a context.
+fn context_word(alloc: Global, key: &str) -> Result<Pair, AllocError>
     ensures { IfOk result (λ word. word ≡ some_word key.now) }
 {
-    Ok(Pair {
-        key: Text::from_str(alloc, key)?,
-        value: Text::new(alloc),
-    })
+    Ok(some_word(alloc, Text::from_str(alloc, key)?))
 }
 
 /// The word of a name between two texts.
 fn word_around(alloc: Global, front: &str, name: &Text, end: &str) -> Result<Pair, AllocError>
     ensures { IfOk result (λ word. word ≡ some_word (front.now ++ name.now ++ end.now)) }
 {
-    let mut key = String::from_str(alloc, front)?;
+    let length = front
+        .len()
+        .saturating_add(name.len())
+        .saturating_add(end.len());
+    let mut key = String::with_capacity(alloc, length)?;
+    key.push_str(front)?;
     key.push_str(name.as_str())?;
     key.push_str(end)?;
-    some_word(alloc, key.as_str())
+    Ok(some_word(alloc, Text::from_string(key)))
 }
 
 /// The words of the contexts that the texts of a task see.
@@ -39,12 +51,12 @@ fn context_words(alloc: Global) -> Result<List<Pair>, AllocError>
     ensures { IfOk result (λ words. words ≡ context_words) }
 {
     let words = vec![in alloc;
-        some_word(alloc, "context.pipelineRun.name")?,
-        some_word(alloc, "context.pipeline.name")?,
-        some_word(alloc, "context.pipelineTask.retries")?,
-        some_word(alloc, "context.taskRun.name")?,
-        some_word(alloc, "context.task.name")?,
-        some_word(alloc, "context.task.retry-count")?,
+        context_word(alloc, "context.pipelineRun.name")?,
+        context_word(alloc, "context.pipeline.name")?,
+        context_word(alloc, "context.pipelineTask.retries")?,
+        context_word(alloc, "context.taskRun.name")?,
+        context_word(alloc, "context.task.name")?,
+        context_word(alloc, "context.task.retry-count")?,
     ]?;
     Ok(List::from_vec(words))
 }

@@ -82,7 +82,7 @@ impl Named for SpaceUse {
 }
 
 /// Up to so many things are found without a map.
-const FEW: usize = 8;
+const FEW: usize = 16;
 
 /// Things that are found by their names; of equal names the first counts. A contract sees the things.
 #[derive(Drop)]
