@@ -5,6 +5,7 @@ pub mod ChildLists
 pub mod CycleFound
 pub mod CycleNames
 pub mod LeftOver
+pub mod NoTask
 pub mod Outcome
 pub mod PlacesWhere
 pub mod Removing

@@ -6,7 +6,7 @@ ghost use Rattle.tk_graph.specs.Tasks.{entry_tasks, first_name, guard_tasks, mat
 use std::alloc::{AllocError, Global};
 use tk_types::{List, Matrix, Pair, Param, Text, Value, When};
 use tk_vars::laws::one_bad_offset;
-use tk_vars::{Part, Piece, ScanError, scan};
+use tk_vars::{Part, Piece, ScanError, names_no_task, scan};
 
 /// Whether a reference with this head may be to a task's result.
 fn is_task_head(head: &str) -> bool
@@ -96,6 +96,9 @@ pub(crate) fn add_of_text(
 ) -> Result<(), AllocError>
     ensures { OnOk result (names.new ≡ names.old ++ text_tasks text.now) }
 {
+    if names_no_task(text) {
+        return Ok(());
+    }
     one_bad_offset();
     match scan(alloc, text) {
         Ok(pieces) => add_of_pieces(alloc, pieces.as_slice(), names),
