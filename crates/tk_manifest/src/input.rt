@@ -10,6 +10,7 @@ ghost use Rattle.tk_manifest.specs.Input.{body, body_of, items_from, json_of, li
 
 use crate::item::{Heading, check_version, read_headed, read_heading, read_item};
 use crate::kinds::KindSet;
+use crate::with_document::WithDocument;
 use serde_json::Value as Json;
 use std::alloc::{AllocError, Global};
 use std::str;
@@ -150,6 +151,26 @@ fn input_fault(alloc: Global, number: u8) -> Fault
     }
 }
 
+/// The objects of an input beside its document, or what is wrong with it first, as `read_objects` gives them.
+pub fn read_objects_with_document(
+    alloc: Global,
+    bytes: &[u8],
+    kinds: KindSet,
+) -> Result<WithDocument<List<Item>>, Rejected>
+    ensures { Reads (reading_fault kinds bytes.now) (objects_of kinds bytes.now) result }
+{
+    if LONGEST_INPUT < bytes.len() {
+        return Err(Rejected::Fault(input_fault(alloc, 22)));
+    }
+    match json(alloc, bytes)? {
+        Some(value) => {
+            let objects = read_whole(alloc, kinds, &value)?;
+            Ok(WithDocument::new(objects, value))
+        }
+        None => Err(Rejected::Fault(input_fault(alloc, 1))),
+    }
+}
+
 /// The objects of an input, or what is wrong with it first. It is `TooLong` above 8,388,608 bytes, before anything is
 /// parsed, and `BadJson` where it is no text of JSON, which is one that nests deeper than 127 too. Then it is one
 /// object, or a List of objects in order. Of an object its version and kind go first, then its keys, then its fields.
@@ -157,11 +178,6 @@ fn input_fault(alloc: Global, number: u8) -> Fault
 pub fn read_objects(alloc: Global, bytes: &[u8], kinds: KindSet) -> Result<List<Item>, Rejected>
     ensures { Reads (reading_fault kinds bytes.now) (objects_of kinds bytes.now) result }
 {
-    if LONGEST_INPUT < bytes.len() {
-        return Err(Rejected::Fault(input_fault(alloc, 22)));
-    }
-    match json(alloc, bytes)? {
-        Some(value) => read_whole(alloc, kinds, &value),
-        None => Err(Rejected::Fault(input_fault(alloc, 1))),
-    }
+    let objects = read_objects_with_document(alloc, bytes, kinds)?;
+    Ok(objects.into_inner())
 }

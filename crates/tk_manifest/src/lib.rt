@@ -19,7 +19,9 @@ mod run;
 mod task;
 #[cfg(test)]
 mod tests;
+mod with_document;
 mod workspace;
 
-pub use input::read_objects;
+pub use input::{read_objects, read_objects_with_document};
 pub use kinds::KindSet;
+pub use with_document::WithDocument;
