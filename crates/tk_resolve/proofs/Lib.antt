@@ -1,4 +1,5 @@
 pub mod BodiesRead
+pub mod EarlyParams
 pub mod Examples
 pub mod Found
 pub mod FoundPipeline
@@ -7,6 +8,8 @@ pub mod LookedUp
 pub mod MatrixCounts
 pub mod MatrixLists
 pub mod Misused
+pub mod ParamsAlone
+pub mod PassedOver
 pub mod Readings
 pub mod ResolvedRuns
 pub mod Started

@@ -58,13 +58,16 @@ all_tasks pipeline = pipeline.tasks ++ pipeline.finally
 abbrev pub bodies_of : List Item → RunObject → PipelineSpec → Option (List TaskBody)
 bodies_of earlier run pipeline = all_some (map (λ (t : PipelineTask). body_of earlier run pipeline t t.source) (all_tasks pipeline))
 
--- what the texts of a task see at admission, in a run and a pipeline of these names
-abbrev pub words_of : List ℕ → List ℕ → PipelineTask → List Pair
-words_of run pipeline task =
+-- what the texts of a task of so many retries see at admission, in a run and a pipeline of these names
+abbrev pub words_with : List ℕ → List ℕ → ℕ → List Pair
+words_with run pipeline retries =
     record { key = codes "context.pipelineRun.name"; value = run }
     ∷ record { key = codes "context.pipeline.name"; value = pipeline }
-    ∷ record { key = codes "context.pipelineTask.retries"; value = decimal task.retries }
+    ∷ record { key = codes "context.pipelineTask.retries"; value = decimal retries }
     ∷ []
+
+abbrev pub words_of : List ℕ → List ℕ → PipelineTask → List Pair
+words_of run pipeline task = words_with run pipeline task.retries
 
 abbrev pub task_words : RunObject → PipelineTask → List Pair
 task_words run task = words_of run.name (pipeline_name run run.source) task

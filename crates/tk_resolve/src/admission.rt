@@ -14,11 +14,11 @@ use crate::misuse::Declarer;
 use crate::questions::any_lacks;
 use crate::spec::pipeline_name;
 use crate::values::has_missing;
-use crate::words::words_of;
+use crate::words::RunWords;
 use std::alloc::{AllocError, Global};
 use std::marker::Model;
 use tk_bind::{EnvIndex, FirstNamed, Lookup};
-use tk_types::{List, Pair, Param, PipelineSpec, PipelineTask, RunObject};
+use tk_types::{Pair, Param, PipelineSpec, PipelineTask, RunObject};
 
 /// A run with its Pipeline, whose values are found by their names. A contract sees the run and the Pipeline.
 #[derive(Drop)]
@@ -26,26 +26,21 @@ pub(crate) struct Admission<'a> {
     run: &'a RunObject,
     pipeline: &'a PipelineSpec,
     values: EnvIndex<'a, 'a, 'a>,
+    words: RunWords<'a>,
 }
 
 impl<'a> Model for Admission<'a> {
     ghost use Rattle.std.specs.Prelude.{◌≡◌, []};
     ghost use Rattle.tk_types.specs.declared.object.PipelineSpec.{PipelineSpec};
     ghost use Rattle.tk_types.specs.declared.object.RunObject.{RunObject};
-    ghost use Rattle.tk_resolve.specs.Run.{env_with};
+    ghost use Rattle.tk_resolve.specs.Run.{env_with, pipeline_name};
 
     ghost Value = { RunObject × PipelineSpec };
 
     ghost view = { λ admission. (admission.run.now, admission.pipeline.now) };
 
-    ghost invariant = { λ admission. admission.values ≡ env_with admission.run.now admission.pipeline.now [] };
-}
-
-/// The words that the texts of a task see at admission.
-fn task_words(alloc: Global, run: &RunObject, task: &PipelineTask) -> Result<List<Pair>, AllocError>
-    ensures { IfOk result (λ words. words ≡ task_words run.now task.now) }
-{
-    words_of(alloc, &run.name, pipeline_name(run), task)
+    ghost invariant = { λ admission. (admission.values ≡ env_with admission.run.now admission.pipeline.now [])
+        × (admission.words ≡ (admission.run.now.name, pipeline_name admission.run.now admission.run.now.source)) };
 }
 
 /// Whether a text of a task takes of a parameter what isn't there or isn't due.
@@ -72,6 +67,7 @@ impl<'a> Admission<'a> {
         Ok(Admission {
             run,
             pipeline,
+            words: RunWords::new(alloc, &run.name, pipeline_name(run))?,
             values: EnvIndex::new(alloc, values, &[], &[])?,
         })
     }
@@ -90,7 +86,7 @@ impl<'a> Admission<'a> {
         ensures { IfOk result (λ lacks. lacks ≡ task_lacks self.now.0 self.now.1 declarer.now) }
     {
         let task = declarer.task();
-        let words = task_words(alloc, self.run, task)?;
+        let words = self.words.of(alloc, task)?;
         let lookup = self.lookup(words.as_slice());
         if texts_lack(alloc, &lookup, task)? {
             return Ok(true);

@@ -1,4 +1,4 @@
-ghost use Rattle.std.specs.Prelude.{◌≡◌, All, filter, flat_map, not, IfOk};
+ghost use Rattle.std.specs.Prelude.{◌≡◌, ◌++◌, All, filter, flat_map, not, IfOk};
 ghost use Rattle.std.specs.List.{list_all};
 ghost use Rattle.tk_types.specs.declared.value.ParamSpec.{ParamSpec as Wanted};
 ghost use Rattle.tk_bind.specs.Fits.{step_env};
@@ -10,10 +10,10 @@ ghost use Rattle.tk_resolve.specs.Settled.{all_fit, fits_beside};
 
 use crate::due::{Due, steps_dues};
 use crate::questions::{any_lacks, is_among};
-use crate::settled::{known_combinations, late_names, push_params};
+use crate::settled::{is_settled, known_combinations, own_params, push_params};
 use std::alloc::{AllocError, Global};
 use std::marker::Model;
-use tk_bind::{BindError, FirstNamed, Lookup, bind_params, index_of, step_env};
+use tk_bind::{BindError, EnvIndex, FirstNamed, Lookup, bind_params};
 use tk_types::{List, Param, ParamSpec, PipelineTask, TaskBody, Text, TryCopy};
 
 /// A body beside late parameters: what it wants of the others, and the texts of its steps. A contract sees the names of
@@ -41,6 +41,19 @@ impl<'a> Model for Beside<'a> {
         × (seen beside.texts.items ≡ flat_map step_dues beside.body.now.spec.steps) };
 }
 
+/// The parameters that the texts of a body's steps see, with these in front.
+fn seen_params(
+    alloc: Global,
+    body: &TaskBody,
+    mut params: List<Param>,
+) -> Result<List<Param>, AllocError>
+    ensures { IfOk result (λ seen. seen ≡ params ++ body.now.outer ++ body.now.fallback) }
+{
+    push_params(alloc, &mut params, body.outer.as_slice())?;
+    push_params(alloc, &mut params, body.fallback.as_slice())?;
+    Ok(params)
+}
+
 /// The declared parameters that aren't late.
 fn early_specs(
     alloc: Global,
@@ -58,13 +71,28 @@ fn early_specs(
     Ok(specs)
 }
 
+/// The same; where no parameter is late they are shared.
+fn wanted_beside(
+    alloc: Global,
+    late: &[Text],
+    params: &List<ParamSpec>,
+) -> Result<List<ParamSpec>, AllocError>
+    ensures { IfOk result (λ specs. specs ≡ filter (λ (w : Wanted). not (is_in late.now w.name)) params.now) }
+{
+    if late.is_empty() {
+        return params.copy(alloc);
+    }
+    let late = FirstNamed::new(alloc, late)?;
+    early_specs(alloc, &late, params.as_slice())
+}
+
 impl<'a> Beside<'a> {
     /// This body beside these late parameters.
     fn new(alloc: Global, late: &'a [Text], body: &'a TaskBody) -> Result<Self, AllocError>
         ensures { IfOk result (λ beside. beside ≡ (late.now, body.now)) }
     {
+        let wanted = wanted_beside(alloc, late, &body.spec.params)?;
         let late = FirstNamed::new(alloc, late)?;
-        let wanted = early_specs(alloc, &late, body.spec.params.as_slice())?;
         let texts = steps_dues(alloc, body.spec.steps.as_slice())?;
         Ok(Beside {
             late,
@@ -79,8 +107,8 @@ impl<'a> Beside<'a> {
         requires { All ReadsStep self.now.1.spec.steps }
         ensures { IfOk result (λ lacks. lacks ≡ any_lacks (step_env self.now.1 params) self.now.0 (flat_map step_dues self.now.1.spec.steps)) }
     {
-        let env = step_env(alloc, self.body, params)?;
-        let index = index_of(alloc, &env)?;
+        let params = seen_params(alloc, self.body, params)?;
+        let index = EnvIndex::new(alloc, params.as_slice(), &[], &[])?;
         let lookup = Lookup::new(&index, &[]);
         any_lacks(alloc, &lookup, &self.late, self.texts.as_slice())
     }
@@ -127,11 +155,14 @@ pub(crate) fn all_fit(
     requires body { All ReadsStep body.now.spec.steps }
     ensures { IfOk result (λ fit. fit ≡ all_fit lookup.now task.now body.now) }
 {
-    let combinations = known_combinations(alloc, lookup, task)?;
+    if !is_settled(alloc, task)? {
+        return Ok(true);
+    }
+    let own = own_params(alloc, task)?;
+    let combinations = known_combinations(alloc, lookup, task, own.early.as_slice())?;
     if combinations.is_empty() {
         return Ok(true);
     }
-    let late = late_names(alloc, task)?;
-    let beside = Beside::new(alloc, late.as_slice(), body)?;
+    let beside = Beside::new(alloc, own.late.as_slice(), body)?;
     beside.fit_all(alloc, combinations.as_slice())
 }

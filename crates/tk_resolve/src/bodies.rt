@@ -13,30 +13,47 @@ use std::alloc::{AllocError, Global};
 use std::marker::Model;
 use tk_bind::FirstNamed;
 use tk_types::{
-    List, Param, ParamSpec, PipelineSpec, PipelineTask, RunObject, Space, TaskBody, TaskSource,
-    TaskSpec, Text, TryCopy,
+    List, Param, PipelineSpec, PipelineTask, RunObject, Space, TaskBody, TaskSource, TaskSpec,
+    Text, TryCopy,
 };
 
-/// A run and its Pipeline, of which the run's bindings and the declared parameters are found by their names. A contract
-/// sees both.
+/// A run and its Pipeline, of which the run's bindings are found by their names, with what each inlined spec sees. A
+/// contract sees both.
 #[derive(Drop)]
 struct RunIndex<'r> {
     run: &'r RunObject,
     pipeline: &'r PipelineSpec,
     bindings: FirstNamed<'r, Space>,
-    params: FirstNamed<'r, ParamSpec>,
+    outer: List<Param>,
+    fallback: List<Param>,
 }
 
 impl<'r> Model for RunIndex<'r> {
     ghost use Rattle.std.specs.Prelude.{◌≡◌};
     ghost use Rattle.tk_types.specs.declared.object.PipelineSpec.{PipelineSpec};
     ghost use Rattle.tk_types.specs.declared.object.RunObject.{RunObject};
+    ghost use Rattle.tk_resolve.specs.Values.{defaults, outer_values};
 
     ghost Value = { RunObject × PipelineSpec };
 
     ghost view = { λ index. (index.run.now, index.pipeline.now) };
 
-    ghost invariant = { λ index. (index.bindings ≡ index.run.now.bindings) × (index.params ≡ index.pipeline.now.params) };
+    ghost invariant = { λ index. (index.bindings ≡ index.run.now.bindings)
+        × (index.outer ≡ outer_values index.pipeline.now.params index.run.now.params)
+        × (index.fallback ≡ defaults index.pipeline.now.params) };
+}
+
+/// What is given to a run, as a spec that is inlined in a task sees it; copies share it.
+fn outer_of(
+    alloc: Global,
+    run: &RunObject,
+    pipeline: &PipelineSpec,
+) -> Result<List<Param>, AllocError>
+    ensures { IfOk result (λ outer. outer ≡ outer_values pipeline.now.params run.now.params) }
+{
+    let params = FirstNamed::new(alloc, pipeline.params.as_slice())?;
+    let outer = outer_values(alloc, &params, run.params.as_slice())?;
+    outer.share(alloc)
 }
 
 impl<'r> RunIndex<'r> {
@@ -52,7 +69,8 @@ impl<'r> RunIndex<'r> {
             run,
             pipeline,
             bindings: FirstNamed::new(alloc, run.bindings.as_slice())?,
-            params: FirstNamed::new(alloc, pipeline.params.as_slice())?,
+            outer: outer_of(alloc, run, pipeline)?,
+            fallback: defaults(alloc, pipeline.params.as_slice())?.share(alloc)?,
         })
     }
 
@@ -88,13 +106,6 @@ impl<'r> RunIndex<'r> {
         })
     }
 
-    /// What is given to the run.
-    fn outer(&self, alloc: Global) -> Result<List<Param>, AllocError>
-        ensures { IfOk result (λ outer. outer ≡ outer_values self.now.1.params self.now.0.params) }
-    {
-        outer_values(alloc, &self.params, self.run.params.as_slice())
-    }
-
     /// The body of a task that runs a spec of its own, which sees what is given to the run and declared by the pipeline.
     fn inlined_body(
         &self,
@@ -107,8 +118,8 @@ impl<'r> RunIndex<'r> {
         Ok(TaskBody {
             spec: spec.copy(alloc)?,
             task_name: task.name.copy(alloc)?,
-            outer: self.outer(alloc)?,
-            fallback: defaults(alloc, self.pipeline.params.as_slice())?,
+            outer: self.outer.copy(alloc)?,
+            fallback: self.fallback.copy(alloc)?,
             bound: self.spaces(alloc, task, spec)?,
         })
     }
@@ -171,7 +182,9 @@ impl<'r> RunIndex<'r> {
     ) -> Result<Option<List<TaskBody>>, AllocError>
         ensures { IfOk result (λ bodies. bodies ≡ bodies_of earlier.now self.now.0 self.now.1) }
     {
-        let none = List::new(alloc);
+        let tasks = self.pipeline.tasks.len();
+        let count = tasks.saturating_add(self.pipeline.finally.len());
+        let none = List::from_vec(Vec::with_capacity(alloc, count)?);
         match self.bodies_behind(alloc, earlier, none, self.pipeline.tasks.as_slice())? {
             Some(bodies) => {
                 self.bodies_behind(alloc, earlier, bodies, self.pipeline.finally.as_slice())

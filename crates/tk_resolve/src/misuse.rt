@@ -12,7 +12,7 @@ use std::alloc::{AllocError, Global};
 use std::marker::Model;
 use tk_bind::{FirstNamed, Named, Target, key_part, suits, target_of};
 use tk_types::{ParamType, PipelineSpec, PipelineTask, ResultSpec, TaskBody, Text};
-use tk_vars::{Part, Reference};
+use tk_vars::{Part, Reference, names_no_task};
 
 /// A task with its body, whose results are found by their names. A contract sees the task and the body.
 #[derive(Drop)]
@@ -128,7 +128,7 @@ pub(crate) fn declarers<'a>(
 {
     let tasks = pipeline.tasks.as_slice().iter();
     let all = tasks.chain(pipeline.finally.as_slice());
-    let mut made = Vec::new(alloc);
+    let mut made = Vec::with_capacity(alloc, bodies.len())?;
     for (task, body) in all.zip(bodies) {
         made.push(Declarer::new(alloc, task, body)?)?;
     }
@@ -180,6 +180,10 @@ struct Misuses<'l, 'e, 'a> {
 
 impl<'l, 'e, 'a> Question for Misuses<'l, 'e, 'a> {
     ghost asks = { λ q due r. misuses q.tasks.now due r };
+
+    fn passes_over(&self, text: &str) -> bool {
+        names_no_task(text)
+    }
 
     fn holds(
         &self,

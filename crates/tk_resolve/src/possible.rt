@@ -69,6 +69,9 @@ impl<'a> RunValues<'a> {
         requires { ReadsPipelineTask task.now }
         ensures { IfOk result (λ count. count ≡ option_map told_count (settled_count self.now task.now)) }
     {
+        if task.matrix.is_none() {
+            return Ok(Some(1));
+        }
         let words = self.words(alloc, task)?;
         let lookup = self.lookup(words.as_slice());
         match settled_matrix(alloc, &lookup, task)? {

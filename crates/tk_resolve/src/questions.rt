@@ -11,7 +11,7 @@ use crate::uses::{Question, any_use};
 use std::alloc::{AllocError, Global};
 use tk_bind::{FirstNamed, Found, Lookup, Target, is_status, key_part, target_of};
 use tk_types::{ParamType, Text};
-use tk_vars::Reference;
+use tk_vars::{Reference, is_plain, names_no_task};
 
 /// The type of a value that was found.
 fn type_of(found: Found<'_>) -> ParamType
@@ -73,6 +73,10 @@ pub(crate) struct Lacks<'l, 'i, 'p, 'r, 'w, 'o, 'n, 's> {
 impl<'l, 'i, 'p, 'r, 'w, 'o, 'n, 's> Question for Lacks<'l, 'i, 'p, 'r, 'w, 'o, 'n, 's> {
     ghost asks = { λ q due r. lacks q.lookup.now q.spared.now due r };
 
+    fn passes_over(&self, text: &str) -> bool {
+        is_plain(text)
+    }
+
     fn holds(
         &self,
         alloc: Global,
@@ -101,6 +105,10 @@ fn is_result(target: Target<'_>) -> bool
 impl Question for ToResult {
     ghost asks = { λ q due r. is_to_result due r };
 
+    fn passes_over(&self, text: &str) -> bool {
+        names_no_task(text)
+    }
+
     fn holds(
         &self,
         _alloc: Global,
@@ -117,6 +125,10 @@ pub(crate) struct ToLater;
 
 impl Question for ToLater {
     ghost asks = { λ q due r. is_to_later due r };
+
+    fn passes_over(&self, text: &str) -> bool {
+        names_no_task(text)
+    }
 
     fn holds(
         &self,

@@ -1,6 +1,5 @@
-ghost use Rattle.std.specs.Prelude.{◌≡◌, ◌++◌, filter, map, not, IfOk, OnOk};
+ghost use Rattle.std.specs.Prelude.{◌≡◌, ◌++◌, filter, map, not, true, IfOk, OnOk};
 ghost use Rattle.std.specs.Option.{ForSome};
-ghost use Rattle.tk_types.specs.declared.value.Param.{Param as P};
 ghost use Rattle.tk_matrix.specs.Product.{HasLists};
 ghost use Rattle.tk_bind.specs.Readings.{ReadsMatrix, ReadsParam, ReadsParams, ReadsPipelineTask};
 ghost use Rattle.tk_resolve.specs.Settled.{early_params, is_late, is_settled, judged_combinations, known_combinations, late_names};
@@ -31,6 +30,13 @@ fn is_late(alloc: Global, param: &Param) -> Result<bool, AllocError>
     any_use(alloc, &ToLater, texts.as_slice())
 }
 
+/// A task's own parameters: those whose values are known at admission, and the names of the others.
+#[derive(Drop)]
+pub(crate) struct OwnParams {
+    pub early: List<Param>,
+    pub late: List<Text>,
+}
+
 /// The parameters of a task's own whose values are known at admission.
 fn early_params(alloc: Global, task: &PipelineTask) -> Result<List<Param>, AllocError>
     requires { ReadsPipelineTask task.now }
@@ -45,8 +51,8 @@ fn early_params(alloc: Global, task: &PipelineTask) -> Result<List<Param>, Alloc
     Ok(early)
 }
 
-/// The names of the others. The only error is want of memory.
-pub(crate) fn late_names(alloc: Global, task: &PipelineTask) -> Result<List<Text>, AllocError>
+/// The names of the others.
+fn late_names(alloc: Global, task: &PipelineTask) -> Result<List<Text>, AllocError>
     requires { ReadsPipelineTask task.now }
     ensures { IfOk result (λ names. names ≡ late_names task.now) }
 {
@@ -57,6 +63,21 @@ pub(crate) fn late_names(alloc: Global, task: &PipelineTask) -> Result<List<Text
         }
     }
     Ok(names)
+}
+
+/// The parameters of a task's own. The only error is want of memory.
+pub(crate) fn own_params(alloc: Global, task: &PipelineTask) -> Result<OwnParams, AllocError>
+    requires { ReadsPipelineTask task.now }
+    ensures early { IfOk result (λ own. own.early ≡ early_params task.now) }
+    ensures late { IfOk result (λ own. own.late ≡ late_names task.now) }
+{
+    let late = late_names(alloc, task)?;
+    let early = if late.is_empty() {
+        task.params.copy(alloc)?
+    } else {
+        early_params(alloc, task)?
+    };
+    Ok(OwnParams { early, late })
 }
 
 /// Adds copies of parameters. The only error is want of memory.
@@ -81,9 +102,10 @@ fn with_early(
 ) -> Result<List<List<Param>>, AllocError>
     ensures { IfOk result (λ made. made ≡ map (λ c. early.now ++ c) combinations.now) }
 {
-    let mut made = List::new(alloc);
+    let mut made = List::from_vec(Vec::with_capacity(alloc, combinations.len())?);
     for combination in combinations {
-        let mut whole = List::new(alloc);
+        let count = early.len().saturating_add(combination.len());
+        let mut whole = List::from_vec(Vec::with_capacity(alloc, count)?);
         push_params(alloc, &mut whole, early)?;
         push_params(alloc, &mut whole, combination.as_slice())?;
         made.push(whole)?;
@@ -122,15 +144,14 @@ pub(crate) fn known_combinations(
     alloc: Global,
     lookup: &Lookup,
     task: &PipelineTask,
+    early: &[Param],
 ) -> Result<List<List<Param>>, AllocError>
-    requires { ReadsPipelineTask task.now }
+    requires task { ReadsPipelineTask task.now }
+    requires settled { is_settled task.now ≡ true }
+    requires early { early.now ≡ early_params task.now }
     ensures { IfOk result (λ made. made ≡ known_combinations lookup.now task.now) }
 {
-    if !is_settled(alloc, task)? {
-        return Ok(List::new(alloc));
-    }
-    let early = early_params(alloc, task)?;
-    let Some(early) = params_in(alloc, lookup, early.as_slice())? else {
+    let Some(early) = params_in(alloc, lookup, early)? else {
         return Ok(List::new(alloc));
     };
     match matrix_in(alloc, lookup, &task.matrix)? {

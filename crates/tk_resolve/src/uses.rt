@@ -1,4 +1,4 @@
-ghost use Rattle.std.specs.Prelude.{◌≡◌, All, IfOk};
+ghost use Rattle.std.specs.Prelude.{◌≡◌, false, All, IfOk, IsTrue};
 ghost use Rattle.std.specs.List.{list_any};
 ghost use Rattle.tk_vars.specs.Reading.{HasReading, pieces_of};
 ghost use Rattle.tk_resolve.specs.Due.{seen};
@@ -16,6 +16,10 @@ pub(crate) trait Question {
     ghost use Rattle.tk_resolve.specs.declared.due.Due.{Due};
 
     ghost asks: { Self → Due → Reference → Bool };
+
+    /// Whether a text may be passed over without a look at its pieces: the answer is no for each of its references.
+    fn passes_over(&self, text: &str) -> bool
+        ensures { IsTrue result → (due : Due) → list_any (passes (asks self.now due)) (pieces_of text.now) ≡ false };
 
     /// The answer. The only error is want of memory.
     fn holds(&self, alloc: Global, due: Due, reference: &Reference<'_>) -> Result<bool, AllocError>
@@ -76,6 +80,9 @@ fn any_in_text<Q: Question>(
     requires { HasReading text.now }
     ensures { IfOk result (λ any. any ≡ list_any (passes (Q.asks question.now due)) (pieces_of text.now)) }
 {
+    if question.passes_over(text) {
+        return Ok(false);
+    }
     let pieces = pieces_of(alloc, text)?;
     any_piece(alloc, question, due, pieces.as_slice())
 }

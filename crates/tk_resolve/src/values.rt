@@ -87,7 +87,7 @@ pub(crate) fn all_values(
 ) -> Result<List<Param>, AllocError>
     ensures { IfOk result (λ params. params ≡ all_values wanted.now given.now) }
 {
-    let mut params = List::new(alloc);
+    let mut params = List::from_vec(Vec::with_capacity(alloc, wanted.len())?);
     let sources = alone(alloc, given)?;
     push_valued(alloc, &mut params, &sources, wanted)?;
     let declared = FirstNamed::new(alloc, wanted)?;
@@ -120,7 +120,7 @@ pub(crate) fn outer_values(
 ) -> Result<List<Param>, AllocError>
     ensures { IfOk result (λ values. values ≡ outer_values wanted.now given.now) }
 {
-    let mut values = List::new(alloc);
+    let mut values = List::from_vec(Vec::with_capacity(alloc, given.len())?);
     for param in given {
         values.push(outer_value(alloc, wanted, param)?)?;
     }

@@ -1,7 +1,8 @@
 ghost use Rattle.std.specs.Prelude.{◌≡◌, IfOk, decimal};
-ghost use Rattle.tk_resolve.specs.Run.{words_of};
+ghost use Rattle.tk_resolve.specs.Run.{words_of, words_with};
 
 use std::alloc::{AllocError, Global};
+use std::marker::Model;
 use tk_types::{List, Pair, PipelineTask, Text, TryCopy};
 
 /// A word.
@@ -23,8 +24,25 @@ fn decimal_text(alloc: Global, number: u32) -> Result<Text, AllocError>
     Ok(Text::from_string(text))
 }
 
-/// The words that the texts of a task see at admission, in a run and a pipeline of these names. The only error is want
-/// of memory.
+/// The words that the texts of a task of so many retries see at admission, in a run and a pipeline of these names.
+fn words_with(
+    alloc: Global,
+    run: &Text,
+    pipeline: &Text,
+    retries: u32,
+) -> Result<List<Pair>, AllocError>
+    ensures { IfOk result (λ words. words ≡ words_with run.now pipeline.now retries) }
+{
+    let retries = decimal_text(alloc, retries)?;
+    let words = vec![in alloc;
+        word(alloc, "context.pipelineRun.name", run.copy(alloc)?)?,
+        word(alloc, "context.pipeline.name", pipeline.copy(alloc)?)?,
+        word(alloc, "context.pipelineTask.retries", retries)?,
+    ]?;
+    Ok(List::from_vec(words))
+}
+
+/// The same of a task. The only error is want of memory.
 pub(crate) fn words_of(
     alloc: Global,
     run: &Text,
@@ -33,11 +51,47 @@ pub(crate) fn words_of(
 ) -> Result<List<Pair>, AllocError>
     ensures { IfOk result (λ words. words ≡ words_of run.now pipeline.now task.now) }
 {
-    let retries = decimal_text(alloc, task.retries)?;
-    let words = vec![in alloc;
-        word(alloc, "context.pipelineRun.name", run.copy(alloc)?)?,
-        word(alloc, "context.pipeline.name", pipeline.copy(alloc)?)?,
-        word(alloc, "context.pipelineTask.retries", retries)?,
-    ]?;
-    Ok(List::from_vec(words))
+    words_with(alloc, run, pipeline, task.retries)
+}
+
+/// The words of a run and a pipeline, made once for all tasks without retries. A contract sees the two names.
+#[derive(Drop)]
+pub(crate) struct RunWords<'a> {
+    run: &'a Text,
+    pipeline: &'a Text,
+    without_retries: List<Pair>,
+}
+
+impl<'a> Model for RunWords<'a> {
+    ghost use Rattle.std.specs.Prelude.{◌≡◌, List as Items, ℕ};
+    ghost use Rattle.tk_resolve.specs.Run.{words_with};
+
+    ghost Value = { Items ℕ × Items ℕ };
+
+    ghost view = { λ words. (words.run.now, words.pipeline.now) };
+
+    ghost invariant = { λ words. words.without_retries ≡ words_with words.run.now words.pipeline.now 0 };
+}
+
+impl<'a> RunWords<'a> {
+    /// The words of a run and a pipeline of these names. The only error is want of memory.
+    pub(crate) fn new(alloc: Global, run: &'a Text, pipeline: &'a Text) -> Result<Self, AllocError>
+        ensures { IfOk result (λ words. words ≡ (run.now, pipeline.now)) }
+    {
+        Ok(RunWords {
+            run,
+            pipeline,
+            without_retries: words_with(alloc, run, pipeline, 0)?.share(alloc)?,
+        })
+    }
+
+    /// The words that the texts of a task see. The only error is want of memory.
+    pub(crate) fn of(&self, alloc: Global, task: &PipelineTask) -> Result<List<Pair>, AllocError>
+        ensures { IfOk result (λ words. words ≡ words_of self.now.0 self.now.1 task.now) }
+    {
+        if task.retries == 0 {
+            return self.without_retries.copy(alloc);
+        }
+        words_of(alloc, self.run, self.pipeline, task)
+    }
 }

@@ -8,7 +8,7 @@ use Rattle.tk_resolve.proofs.settled.known_combinations.Goals as goal
 pub params_in-requires : goal.params_in-requires
 params_in-requires c =
     let task = c.args.task.now in
-    All-same ReadsParam c.as_slice.result.now (early_params task) (c.as_slice.ensures ∙ c.in_ok-early.ensures) (All-filter (λ p. not (is_late p)) ReadsParam task.params c.requires.params)
+    All-same ReadsParam c.args.early.now (early_params task) c.requires.early (All-filter (λ p. not (is_late p)) ReadsParam task.params c.requires.task.params)
 
 pub judged_combinations-requires : goal.judged_combinations-requires
 judged_combinations-requires c = matrix_has_lists c.args.lookup.now c.args.task.now.matrix c.in-Some-2.matrix (sym c.in_ok-matrix.ensures ∙ c.in-Some-2.is)

@@ -14,7 +14,7 @@ returns-in-Some c =
     let pipeline : c.self.inside.pipeline.now ≡ c.args.self.now.1 = ap (λ v. v.1) c.self.view_is in
     let all : tasks ++ last ≡ all_tasks c.args.self.now.1 = cc in
     let made : all_some (map body (tasks ++ last)) ≡ joined (Some c.in-Some.bodies) (all_some (map body last)) =
-    made_of_both body tasks last c.new-none.result (Some c.in-Some.bodies) c.new-none.ensures (sym c.in-Some.is ∙ c.in_ok-bodies.ensures) in
+    made_of_both body tasks last c.from_vec-none.result (Some c.in-Some.bodies) (c.from_vec-none.ensures ∙ c.in_ok-with_capacity.ensures.items) (sym c.in-Some.is ∙ c.in_ok-bodies.ensures) in
     let P : Option (List TaskBody) → Type 0 = λ b. IfOk c.bodies_behind-in-Some.result (λ bodies. bodies ≡ b) in
     subst P (sym made ∙ ap (λ ts. all_some (map body ts)) all) c.bodies_behind-in-Some.ensures
 
@@ -26,5 +26,5 @@ returns-in-None c =
     let pipeline : c.self.inside.pipeline.now ≡ c.args.self.now.1 = ap (λ v. v.1) c.self.view_is in
     let all : tasks ++ last ≡ all_tasks c.args.self.now.1 = cc in
     let made : all_some (map body (tasks ++ last)) ≡ None =
-    made_of_both body tasks last c.new-none.result None c.new-none.ensures (sym c.in-None.is ∙ c.in_ok-bodies.ensures) in
+    made_of_both body tasks last c.from_vec-none.result None (c.from_vec-none.ensures ∙ c.in_ok-with_capacity.ensures.items) (sym c.in-None.is ∙ c.in_ok-bodies.ensures) in
     sym made ∙ ap (λ ts. all_some (map body ts)) all

@@ -1,0 +1,77 @@
+-- Texts of which no reference passes a test.
+use Rattle.std.proofs.Common.{◌≡◌, ℕ, Bool, false, List, [], ◌∷◌, None, refl, ap, filter_map}
+use Rattle.std.specs.Prelude.{bytes_eq, codes}
+use Rattle.std.specs.List.{list_any}
+use Rattle.tk_types.specs.declared.task.PipelineTask.{PipelineTask}
+use Rattle.tk_types.specs.declared.task.TaskBody.{TaskBody}
+use Rattle.tk_vars.specs.declared.part.Part.{Part}
+use Rattle.tk_vars.specs.declared.part.Part.TheVariants.{Name, Index, Star}
+use Rattle.tk_vars.specs.declared.piece.Piece.{Piece}
+use Rattle.tk_vars.specs.declared.piece.Piece.TheVariants.{Plain, Ref}
+use Rattle.tk_vars.specs.declared.reference.Reference.{Reference}
+use Rattle.tk_vars.specs.Reading.{pieces_of}
+use Rattle.tk_vars.specs.Target.{Target, param, result, word, target_of, referenced, references_of}
+use Rattle.tk_vars.specs.Task.{heads_task, names_task}
+use Rattle.tk_bind.specs.Scope.{is_status}
+use Rattle.tk_graph.specs.Results.{referenced_result}
+use Rattle.tk_graph.proofs.NoTask.{no_result, or_first, or_second}
+use Rattle.tk_resolve.specs.declared.due.Due.{Due}
+use Rattle.tk_resolve.specs.Misuse.{is_misused, misuses, passes}
+use Rattle.tk_resolve.specs.Settled.{is_result, is_to_later, is_to_result}
+
+-- where none of the references has what the test asks for, none of the pieces passes it
+none_passes : (has test : Reference → Bool) (pieces : List Piece) → ((r : Reference) → has r ≡ false → test r ≡ false)
+    → list_any has (filter_map referenced pieces) ≡ false → list_any (passes test) pieces ≡ false
+none_passes has test [] asks none = refl
+none_passes has test (Plain text ∷ pieces) asks none = none_passes has test pieces asks none
+none_passes has test (Ref r ∷ pieces) asks none =
+    let rest = none_passes has test pieces asks (or_second (has r) (list_any has (filter_map referenced pieces)) none) in
+    rw (asks r (or_first (has r) (list_any has (filter_map referenced pieces)) none)) rest
+
+-- of a text without a reference
+pub none_passes_without : (test : Reference → Bool) (text : List ℕ) → references_of text ≡ [] → list_any (passes test) (pieces_of text) ≡ false
+none_passes_without test text none = none_passes test test (pieces_of text) (λ r no. no) (ap (list_any test) none)
+
+-- of a text that names no task, where the test asks for one
+none_passes_untasked : (test : Reference → Bool) (text : List ℕ) → ((r : Reference) → names_task r ≡ false → test r ≡ false)
+    → list_any names_task (references_of text) ≡ false → list_any (passes test) (pieces_of text) ≡ false
+none_passes_untasked test text asks none = none_passes names_task test (pieces_of text) asks none
+
+-- Of the questions that ask for a task.
+
+-- what refers to no result is no result, and none that is misused
+no_result_is : (target : Target) → referenced_result target ≡ None → is_result target ≡ false
+no_result_is (param name selector) none = refl
+no_result_is (result task name selector) none = cc
+no_result_is (word key) none = refl
+
+no_result_misused : (tasks : List (PipelineTask × TaskBody)) (due : Due) (target : Target) → referenced_result target ≡ None → is_misused tasks due target ≡ false
+no_result_misused tasks due (param name selector) none = refl
+no_result_misused tasks due (result task name selector) none = cc
+no_result_misused tasks due (word key) none = refl
+
+-- nor is it a status, without the head of one
+no_status : (parts : List Part) → heads_task parts ≡ false → is_status parts ≡ false
+no_status [] none = refl
+no_status (Index i ∷ parts) none = refl
+no_status (Star ∷ parts) none = refl
+no_status (Name head ∷ []) none = refl
+no_status (Name head ∷ Index i ∷ parts) none = refl
+no_status (Name head ∷ Star ∷ parts) none = refl
+no_status (Name head ∷ Name last ∷ []) none = rw (or_first (bytes_eq head (codes "tasks")) (bytes_eq head (codes "finally")) none) refl
+no_status (Name head ∷ Name task ∷ Index i ∷ parts) none = refl
+no_status (Name head ∷ Name task ∷ Star ∷ parts) none = refl
+no_status (Name head ∷ Name task ∷ Name last ∷ []) none = rw (or_first (bytes_eq head (codes "tasks")) (bytes_eq head (codes "finally")) none) refl
+no_status (Name head ∷ Name task ∷ Name last ∷ part ∷ parts) none = refl
+
+-- so of a text that names no task no reference is to a result, to what is known later, or misuses a result
+pub none_to_result : (due : Due) (text : List ℕ) → list_any names_task (references_of text) ≡ false → list_any (passes (is_to_result due)) (pieces_of text) ≡ false
+none_to_result due text none = none_passes_untasked (is_to_result due) text (λ r no. no_result_is (target_of r.parts) (no_result r.parts no)) none
+
+pub none_to_later : (due : Due) (text : List ℕ) → list_any names_task (references_of text) ≡ false → list_any (passes (is_to_later due)) (pieces_of text) ≡ false
+none_to_later due text none =
+    none_passes_untasked (is_to_later due) text (λ r no. rw (no_result_is (target_of r.parts) (no_result r.parts no)) (no_status r.parts no)) none
+
+pub none_misused : (tasks : List (PipelineTask × TaskBody)) (due : Due) (text : List ℕ)
+    → list_any names_task (references_of text) ≡ false → list_any (passes (misuses tasks due)) (pieces_of text) ≡ false
+none_misused tasks due text none = none_passes_untasked (misuses tasks due) text (λ r no. no_result_misused tasks due (target_of r.parts) (no_result r.parts no)) none
