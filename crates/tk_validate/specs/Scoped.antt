@@ -1,5 +1,5 @@
 -- A scope by the parameters that texts see there, and what is wrong with the pieces of a text in it.
-use Rattle.std.specs.Prelude.{ℕ, Bool, not, if◌then◌else◌, ◌++◌, List, [], ◌∷◌, filter_map, find, is_some, map, Option, option_map}
+use Rattle.std.specs.Prelude.{ℕ, Bool, not, List, [], ◌∷◌, filter_map, find, is_some, map, Option, option_map}
 use Rattle.tk_types.specs.Fault.{unknown_variable, unknown_task, wrong_type}
 use Rattle.tk_types.specs.First.{Finding, first_of, refused_if}
 use Rattle.tk_types.specs.Place.{Place}
@@ -10,7 +10,7 @@ use Rattle.tk_bind.specs.declared.scope.Scope.{Scope}
 use Rattle.tk_bind.specs.Scope.{is_visible, is_well_typed}
 use Rattle.tk_validate.specs.Texts.{unknown_of}
 use Rattle.tk_validate.specs.declared.seen.Seen.{Seen}
-use Rattle.tk_validate.specs.Seen.{pipeline_context, task_context, typed_of, untyped_of}
+use Rattle.tk_validate.specs.Seen.{typed_of, untyped_of}
 
 -- the scope of these parameters, words, paths and tasks
 abbrev pub scope_with : List Seen → List (List ℕ) → List (List ℕ) → List (List ℕ) → Bool → Bool → Scope
@@ -40,7 +40,3 @@ types_finding scope whole pieces at = refused_if (is_some (spelling_of (is_well_
 
 abbrev pub pieces_finding : List (List ℕ) → Scope → Bool → List Piece → Place → Finding
 pieces_finding firsts scope whole pieces at = first_of (visible_finding scope pieces at ∷ tasks_finding firsts scope pieces at ∷ types_finding scope whole pieces at ∷ [])
-
--- the context variables that the texts of a Task's steps may name, where it is inlined in a pipeline and where it isn't
-abbrev pub context_of : Bool → List (List ℕ)
-context_of is_inlined = (if is_inlined then pipeline_context else []) ++ task_context

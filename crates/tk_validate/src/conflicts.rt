@@ -9,7 +9,7 @@ ghost use Rattle.tk_validate.specs.Names.{names_of};
 ghost use Rattle.tk_validate.specs.Parts.{on_each_task, on_pipeline_source};
 
 use crate::name_set::NameSet;
-use crate::named::read;
+use crate::named::{read, reads_no_task};
 use crate::rule::{Rule, check_all, told};
 use crate::sited::{Params, TextRule, check_guards, check_own_params, check_results};
 use std::alloc::{AllocError, Global};
@@ -93,6 +93,9 @@ impl<'n, 'a> TextRule for TakesWhole<'n, 'a> {
         text: &str,
         place: &Location<'_>,
     ) -> Result<(), Rejected> {
+        if reads_no_task(text) {
+            return Ok(());
+        }
         let Some(pieces) = read(alloc, text)? else {
             return Ok(());
         };

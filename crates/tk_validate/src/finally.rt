@@ -7,7 +7,7 @@ ghost use Rattle.tk_validate.specs.Names.{names_of};
 ghost use Rattle.tk_validate.specs.Parts.{on_each_task, on_inlined, on_pipeline_source};
 
 use crate::name_set::NameSet;
-use crate::named::read;
+use crate::named::{read, reads_no_task};
 use crate::rule::{Rule, check_all};
 use crate::sited::{
     TextRule, check_guards, check_own_matrix, check_own_params, check_results, check_steps,
@@ -21,16 +21,21 @@ use tk_types::{
 };
 use tk_vars::{Piece, Reference};
 
-/// A kind of references.
+/// A kind of references to a result or a status of a task.
 trait Kind {
-    ghost use Rattle.std.specs.Prelude.{Bool};
+    ghost use Rattle.std.specs.Prelude.{Bool, false};
     ghost use Rattle.tk_vars.specs.declared.reference.Reference.{Reference};
+    ghost use Rattle.tk_vars.specs.Task.{names_task};
 
     ghost holds: { Self → Reference → Bool };
 
     /// Whether a reference is of the kind.
     fn holds(&self, reference: &Reference<'_>) -> bool
         ensures { result ≡ holds self.now reference.now };
+
+    /// All other references are not of the kind.
+    fn is_of_tasks(&self)
+        ensures { (r : Reference) → names_task r ≡ false → holds self.now r ≡ false };
 }
 
 /// References to a status.
@@ -43,6 +48,8 @@ impl Kind for Status {
     fn holds(&self, reference: &Reference<'_>) -> bool {
         is_status(reference.parts.as_slice())
     }
+
+    fn is_of_tasks(&self) {}
 }
 
 /// Whether a reference is to a result of one of these tasks.
@@ -71,6 +78,8 @@ impl<'n, 'a> Kind for OfFinally<'n, 'a> {
         }
         is_status(reference.parts.as_slice()) || names_result_of(self.lasts, reference)
     }
+
+    fn is_of_tasks(&self) {}
 }
 
 /// Whether a piece is a reference of the kind.
@@ -112,6 +121,10 @@ impl<'k, K: Kind> TextRule for NamesNo<'k, K> {
         text: &str,
         place: &Location<'_>,
     ) -> Result<(), Rejected> {
+        if reads_no_task(text) {
+            self.kind.is_of_tasks();
+            return Ok(());
+        }
         let Some(pieces) = read(alloc, text)? else {
             return Ok(());
         };

@@ -7,6 +7,7 @@
 
 mod agreed;
 mod conflicts;
+mod context;
 mod cycle;
 mod entry;
 mod finally;

@@ -8,7 +8,7 @@ use std::collections::HashMap;
 use std::marker::Model;
 
 /// So many names are found without an index.
-const FEW: usize = 8;
+const FEW: usize = 16;
 
 /// Names in the order in which they came, that are found by an index once they are many. A contract sees the names.
 #[derive(Drop)]

@@ -1,14 +1,24 @@
 ghost use Rattle.std.specs.Prelude.{◌≡◌};
 ghost use Rattle.tk_validate.specs.Seen.{is_of_name, kind_seen};
 
+use std::alloc::{AllocError, Global};
 use tk_bind::{FirstNamed, Named};
-use tk_types::{ParamType, Text};
+use tk_types::{ParamType, Text, TryCopy};
 
 /// A parameter that texts see, with its type where that is known.
 #[derive(Drop)]
 pub struct Seen {
     pub name: Text,
     pub kind: Option<ParamType>,
+}
+
+impl TryCopy for Seen {
+    fn copy(&self, alloc: Global) -> Result<Seen, AllocError> {
+        Ok(Seen {
+            name: self.name.copy(alloc)?,
+            kind: self.kind,
+        })
+    }
 }
 
 impl Named for Seen {

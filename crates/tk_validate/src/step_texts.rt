@@ -2,8 +2,8 @@ ghost use Rattle.std.specs.Prelude.{◌≡◌, ◌++◌, [], false, flat_map, If
 ghost use Rattle.tk_types.specs.Rejected.{Reads};
 ghost use Rattle.tk_types.specs.declared.task.SpaceSpec.{SpaceSpec as S};
 ghost use Rattle.tk_bind.specs.Fits.{result_words, space_words, words_of_space};
-ghost use Rattle.tk_validate.specs.Scoped.{context_of, scope_with};
-ghost use Rattle.tk_validate.specs.Seen.{declared_seen, keys, pipeline_context, task_context};
+ghost use Rattle.tk_validate.specs.Scoped.{scope_with};
+ghost use Rattle.tk_validate.specs.Seen.{declared_seen, keys};
 ghost use Rattle.tk_validate.specs.Sited.{in_steps};
 ghost use Rattle.tk_validate.specs.Texts.{step_texts, text_finding};
 
@@ -23,7 +23,12 @@ use tk_types::{List, Rejected, ResultSpec, SpaceSpec, TaskSpec, Text};
 fn name_around(alloc: Global, front: &str, name: &Text, end: &str) -> Result<Text, AllocError>
     ensures { IfOk result (λ text. text ≡ front.now ++ (name.now ++ end.now)) }
 {
-    let mut text = String::from_str(alloc, front)?;
+    let length = front
+        .len()
+        .saturating_add(name.len())
+        .saturating_add(end.len());
+    let mut text = String::with_capacity(alloc, length)?;
+    text.push_str(front)?;
     text.push_str(name.as_str())?;
     text.push_str(end)?;
     Ok(Text::from_string(text))
@@ -67,50 +72,15 @@ fn result_paths(alloc: Global, results: &[ResultSpec]) -> Result<List<Text>, All
     Ok(paths)
 }
 
-/// The context variables of a pipeline. The only error is want of memory.
-pub(crate) fn pipeline_context(alloc: Global) -> Result<List<Text>, AllocError>
-    ensures { IfOk result (λ words. words ≡ pipeline_context) }
-{
-    let words = vec![in alloc;
-        Text::from_str(alloc, "context.pipelineRun.name")?,
-        Text::from_str(alloc, "context.pipeline.name")?,
-        Text::from_str(alloc, "context.pipelineTask.retries")?,
-    ]?;
-    Ok(List::from_vec(words))
-}
-
-/// Adds the context variables of a Task.
-fn add_task_context(alloc: Global, words: &mut List<Text>) -> Result<(), AllocError>
-    ensures { OnOk result (words.new ≡ words.old ++ task_context) }
-{
-    words.push(Text::from_str(alloc, "context.taskRun.name")?)?;
-    words.push(Text::from_str(alloc, "context.task.name")?)?;
-    words.push(Text::from_str(alloc, "context.task.retry-count")?)?;
-    Ok(())
-}
-
-/// The context variables of a Task's steps, those of a pipeline too where the Task is inlined in one.
-fn context_of(alloc: Global, is_inlined: bool) -> Result<List<Text>, AllocError>
-    ensures { IfOk result (λ words. words ≡ context_of is_inlined) }
-{
-    let mut words = if is_inlined {
-        pipeline_context(alloc)?
-    } else {
-        List::new(alloc)
-    };
-    add_task_context(alloc, &mut words)?;
-    Ok(words)
-}
-
-/// The words that the texts of a Task's steps may name.
+/// The words that the texts of a Task's steps may name, beside these context variables.
 fn step_words(
     alloc: Global,
-    is_inlined: bool,
+    context: List<Text>,
     spaces: &[SpaceSpec],
 ) -> Result<List<Text>, AllocError>
-    ensures { IfOk result (λ words. words ≡ context_of is_inlined ++ keys (space_words spaces.now)) }
+    ensures { IfOk result (λ words. words ≡ context ++ keys (space_words spaces.now)) }
 {
-    let mut words = context_of(alloc, is_inlined)?;
+    let mut words = context;
     add_spaces(alloc, &mut words, spaces)?;
     Ok(words)
 }
@@ -167,19 +137,19 @@ fn check_indexed<'x>(
 }
 
 /// Refuses the first text of a Task's steps with which something is wrong; they see two layers behind the Task's own
-/// parameters, and the context variables of a pipeline where the Task is inlined in one.
+/// parameters, and these context variables.
 pub(crate) fn check_step_texts<'x>(
     alloc: Global,
     spec: &TaskSpec,
     middle: &'x FirstNamed<'_, Seen>,
     outer: &'x FirstNamed<'_, Seen>,
-    is_inlined: bool,
+    context: List<Text>,
     place: &Location<'_>,
 ) -> Result<(), Rejected>
-    ensures { Reads (step_texts (middle.now ++ outer.now) (context_of is_inlined) place.now spec.now) tt result }
+    ensures { Reads (step_texts (middle.now ++ outer.now) context place.now spec.now) tt result }
 {
     let seen = own_seen(alloc, spec)?;
-    let words = step_words(alloc, is_inlined, spec.spaces.as_slice())?;
+    let words = step_words(alloc, context, spec.spaces.as_slice())?;
     let paths = result_paths(alloc, spec.results.as_slice())?;
     check_indexed(
         alloc,

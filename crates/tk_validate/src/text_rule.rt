@@ -16,7 +16,7 @@ use std::alloc::{AllocError, Global};
 use tk_fields::{Location, refusal};
 use tk_types::{Detail, List, Rejected, Text};
 use tk_vars::laws::one_bad_offset;
-use tk_vars::{Piece, Pieces, ScanError, scan};
+use tk_vars::{Piece, Pieces, ScanError, is_plain, scan};
 
 /// A detail of one name.
 fn one_name(alloc: Global, name: &str) -> Result<Detail, AllocError>
@@ -134,6 +134,9 @@ impl<'s, 'l, 'i, 'm, 'o, 'w, 't, 'f> TextRule for InScope<'s, 'l, 'i, 'm, 'o, 'w
         text: &str,
         place: &Location<'_>,
     ) -> Result<(), Rejected> {
+        if is_plain(text) {
+            return Ok(());
+        }
         let pieces = scanned(alloc, text, place)?;
         check_pieces(
             alloc,

@@ -7,6 +7,7 @@ ghost use Rattle.tk_validate.specs.Sited.{in_results};
 ghost use Rattle.tk_validate.specs.Texts.{alone_texts, inlined_texts, pipeline_texts, runs_after_known, task_texts, text_finding, texts};
 ghost use Rattle.tk_validate.specs.TextsBy.{results_by, tasks_by, texts_by};
 
+use crate::context::{InlinedContext, pipeline_context, task_context};
 use crate::layers::Layers;
 use crate::name_set::NameSet;
 use crate::outside::{add_given, pipeline_seen};
@@ -14,7 +15,7 @@ use crate::rule::{Rule, check_all};
 use crate::scope::Names;
 use crate::seen::Seen;
 use crate::sited::{check_guards, check_own_matrix, check_own_params, check_results};
-use crate::step_texts::{check_step_texts, pipeline_context};
+use crate::step_texts::check_step_texts;
 use crate::task_seen::given_by_task;
 use crate::text_rule::{InScope, told_name};
 use std::alloc::{AllocError, Global};
@@ -45,6 +46,7 @@ impl<'n, 'a> Rule<Text> for Known<'n, 'a> {
 /// Refuses the first text of a spec inlined in a task with which something is wrong.
 fn check_inlined_spec(
     alloc: Global,
+    context: &InlinedContext,
     outer: &FirstNamed<'_, Seen>,
     task: &PipelineTask,
     spec: &TaskSpec,
@@ -54,12 +56,14 @@ fn check_inlined_spec(
 {
     let given = given_by_task(alloc, outer, task)?;
     let middle = FirstNamed::new(alloc, given.as_slice())?;
-    check_step_texts(alloc, spec, &middle, &*outer, true, place)
+    let words = context.words(alloc)?;
+    check_step_texts(alloc, spec, &middle, &*outer, words, place)
 }
 
 /// The same where a task has a spec of its own.
 fn check_inlined(
     alloc: Global,
+    context: &InlinedContext,
     outer: &FirstNamed<'_, Seen>,
     task: &PipelineTask,
     place: &Location<'_>,
@@ -68,7 +72,7 @@ fn check_inlined(
 {
     match &task.source {
         TaskSource::Inlined(spec) => {
-            check_inlined_spec(alloc, outer, task, spec, &place.key("taskSpec"))
+            check_inlined_spec(alloc, context, outer, task, spec, &place.key("taskSpec"))
         }
         TaskSource::Named(_) => Ok(()),
     }
@@ -80,6 +84,7 @@ struct OfTask<'s, 'l, 'i, 'm, 'o, 'w, 't, 'f, 'p> {
     names: &'s Names<'l, 'i, 'm, 'o, 'w, 't>,
     firsts: &'s NameSet<'f>,
     outer: &'s FirstNamed<'p, Seen>,
+    context: &'s InlinedContext,
     is_last: bool,
 }
 
@@ -93,7 +98,7 @@ impl<'s, 'l, 'i, 'm, 'o, 'w, 't, 'f, 'p> Rule<PipelineTask>
         task: &PipelineTask,
         place: &Location<'_>,
     ) -> Result<(), Rejected> {
-        check_inlined(alloc, self.outer, task, place)?;
+        check_inlined(alloc, self.context, self.outer, task, place)?;
         let rule = InScope {
             names: self.names,
             firsts: self.firsts,
@@ -143,6 +148,7 @@ fn check_tasks<'x>(
     names: &'x Names<'_, '_, '_, '_, '_, '_>,
     firsts: &'x NameSet<'_>,
     outer: &'x FirstNamed<'_, Seen>,
+    context: &'x InlinedContext,
     spec: &PipelineSpec,
     place: &Location<'_>,
 ) -> Result<(), Rejected>
@@ -152,6 +158,7 @@ fn check_tasks<'x>(
         names,
         firsts,
         outer,
+        context,
         is_last: false,
     };
     check_all(alloc, &first, spec.tasks.as_slice(), place, "tasks")?;
@@ -159,6 +166,7 @@ fn check_tasks<'x>(
         names,
         firsts,
         outer,
+        context,
         is_last: true,
     };
     check_all(alloc, &last, spec.finally.as_slice(), place, "finally")
@@ -187,7 +195,8 @@ fn check_task_texts<'x>(
         results: true,
         finally_results: false,
     };
-    check_tasks(alloc, &names, &*firsts, &*outer, spec, place)
+    let context = InlinedContext::new(alloc)?;
+    check_tasks(alloc, &names, &*firsts, &*outer, &context, spec, place)
 }
 
 /// The same of a pipeline's results, by what they may name.
@@ -302,7 +311,8 @@ fn check_alone(
     let seen = given_alone(alloc, given)?;
     let outer = FirstNamed::new(alloc, seen.as_slice())?;
     let none = FirstNamed::new(alloc, &[])?;
-    check_step_texts(alloc, spec, &none, &outer, false, place)
+    let context = task_context(alloc)?;
+    check_step_texts(alloc, spec, &none, &outer, context, place)
 }
 
 /// The same of a TaskRun's own spec.

@@ -1,5 +1,5 @@
 use Rattle.tk_validate.proofs.StepWords.{three_pushed}
-use Rattle.tk_validate.proofs.step_texts.add_task_context.Goals as goal
+use Rattle.tk_validate.proofs.context.add_task_context.Goals as goal
 
 pub returns : goal.returns
 returns c =
