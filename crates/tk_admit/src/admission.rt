@@ -15,7 +15,7 @@ use crate::weight::{check_weight, weight};
 use std::alloc::Global;
 use tk_fields::Location;
 use tk_journal::Admitted;
-use tk_manifest::{KindSet, read_objects};
+use tk_manifest::{KindSet, WithDocument, read_objects_with_document};
 use tk_types::{Detail, Item, Rejected};
 use tk_validate::{told, validate};
 
@@ -84,6 +84,22 @@ fn admit_items(
     })
 }
 
+/// What is admitted of an input beside its document, or the first fault, as `admit` gives them.
+pub fn admit_with_document(
+    alloc: Global,
+    bytes: &[u8],
+    kinds: KindSet,
+    asks: u32,
+    root: &str,
+) -> Result<WithDocument<Admitted>, Rejected>
+    ensures admitted { Reads (fault_of_input kinds asks bytes.now) (admitted kinds asks root.now bytes.now) result }
+    ensures well_formed { IfOk result (λ admitted. ForSome admitted.outcomes IsWellFormed) }
+{
+    let items = read_objects_with_document(alloc, bytes, kinds)?;
+    let admitted = admit_items(alloc, items.get().as_slice(), kinds, asks, root)?;
+    Ok(items.put(admitted))
+}
+
 /// What is admitted of an input: the entries that take in its runs, in order; a bound of the entries that their journal
 /// may get; the Scenario, where one stands; the facts of the run and its Outcomes, where `kinds` has Outcomes; and how
 /// many objects there are. `asks` is how many words ask something of a run, and `root` the folder below which the runs'
@@ -103,6 +119,6 @@ pub fn admit(
     ensures admitted { Reads (fault_of_input kinds asks bytes.now) (admitted kinds asks root.now bytes.now) result }
     ensures well_formed { IfOk result (λ admitted. ForSome admitted.outcomes IsWellFormed) }
 {
-    let items = read_objects(alloc, bytes, kinds)?;
-    admit_items(alloc, items.as_slice(), kinds, asks, root)
+    let admitted = admit_with_document(alloc, bytes, kinds, asks, root)?;
+    Ok(admitted.into_inner())
 }

@@ -54,9 +54,9 @@ pub(crate) fn entries(
 ) -> Result<List<Entry>, AllocError>
     ensures { IfOk result (λ entries. entries ≡ map (entry_of_run root.now) runs.items) }
 {
-    let mut entries = List::new(alloc);
+    let mut entries = Vec::new(alloc);
     for run in runs {
         entries.push(entry_of(alloc, root, run)?)?;
     }
-    Ok(entries)
+    Ok(List::from_vec(entries))
 }
