@@ -7,7 +7,8 @@ ghost use Rattle.tkn.specs.Due.{accepted as accepted_by, decided as decided_fact
 use crate::command::Command;
 use crate::due::{Due, checked, decided, nothing, rejected};
 use std::alloc::{AllocError, Global};
-use tk_admit::admit;
+use std::mem;
+use tk_admit::admit_with_document;
 use tk_journal::Admitted;
 use tk_manifest::KindSet;
 use tk_types::{Detail, Facts, Fault, Place, Rejected};
@@ -79,8 +80,13 @@ fn refused(alloc: Global, refused: &Rejected) -> Result<Due, AllocError>
 pub fn answer(alloc: Global, command: Command, bytes: &[u8]) -> Result<Due, AllocError>
     ensures { IfOk result (λ due. due ≡ due_of command bytes.now) }
 {
-    match admit(alloc, bytes, kinds_of(command), 0, ROOT) {
-        Ok(admitted) => accepted(alloc, command, &admitted),
+    match admit_with_document(alloc, bytes, kinds_of(command), 0, ROOT) {
+        Ok(admitted) => {
+            let due = accepted(alloc, command, admitted.get());
+            // What was read and admitted goes with the program, which ends once this is printed.
+            mem::forget(admitted);
+            due
+        }
         Err(error) => refused(alloc, &error),
     }
 }
