@@ -5,24 +5,24 @@ use Rattle.std.proofs.lemmas.List.{drop_more, get_or-take, get_or_append_left, l
 use Rattle.std.proofs.lemmas.Bool.Decides.{nat_tests}
 use Rattle.tk_pod.specs.declared.walk.Walked.{Walked}
 use Rattle.tk_pod.specs.declared.walk.Walked.TheVariants.{Well, Broke}
-use Rattle.tk_pod.specs.Walk.{broken, broken_from, passes, next_step, IsWalk, Walk}
+use Rattle.tk_pod.specs.Walk.{broken, broken_from, passes_at, next_step, IsWalk, Walk}
 
 -- the exit at a step comes first in what is left
 left_at : (keep step exit : ℕ) (exits : List ℕ) → step < length exits → exit ≡ get_or exits step 0
     → broken_from keep 0 exits ≡ broken_from keep step (drop step exits)
-    → broken_from keep 0 exits ≡ cond (passes keep step exit) (broken_from keep (step + 1) (drop (step + 1) exits)) (Some (Broke step exit))
+    → broken_from keep 0 exits ≡ cond (passes_at keep step exit) (broken_from keep (step + 1) (drop (step + 1) exits)) (Some (Broke step exit))
 left_at keep step exit exits lt is so_far =
     so_far ∙ ap (broken_from keep step) (drop_more exits step 0 lt ∙ ap (λ (e : ℕ). e ∷ drop (step + 1) exits) (sym is))
 
 -- an exit that doesn't pass is the first
-broken_here : (keep step exit : ℕ) (exits : List ℕ) → step < length exits → exit ≡ get_or exits step 0 → passes keep step exit ≡ false
+broken_here : (keep step exit : ℕ) (exits : List ℕ) → step < length exits → exit ≡ get_or exits step 0 → passes_at keep step exit ≡ false
     → broken_from keep 0 exits ≡ broken_from keep step (drop step exits) → Some (Broke step exit) ≡ broken_from keep 0 exits
 broken_here keep step exit exits lt is fails so_far =
     sym (left_at keep step exit exits lt is so_far
     ∙ ap (λ (b : Bool). cond b (broken_from keep (step + 1) (drop (step + 1) exits)) (Some (Broke step exit))) fails)
 
--- one that passes leads on
-broken_later : (keep step exit : ℕ) (exits : List ℕ) → step < length exits → exit ≡ get_or exits step 0 → passes keep step exit ≡ true
+-- one that passes_at leads on
+broken_later : (keep step exit : ℕ) (exits : List ℕ) → step < length exits → exit ≡ get_or exits step 0 → passes_at keep step exit ≡ true
     → broken_from keep 0 exits ≡ broken_from keep step (drop step exits) → broken_from keep 0 exits ≡ broken_from keep (step + 1) (drop (step + 1) exits)
 broken_later keep step exit exits lt is good so_far =
     left_at keep step exit exits lt is so_far
@@ -40,7 +40,7 @@ pub fits : (count : ℕ) (exits : List ℕ) → length exits ≡ 32 → count �
 fits count exits room most = subst (λ (k : ℕ). count ≤ k) (sym room) most
 
 pub here : (walk : Walk) (steps keep count step : ℕ) (exits : List ℕ) (good : Bool) → walk ≡ walk_of steps keep count exits → count ≤ length exits → step < count
-    → good ≡ passes keep step (get_or exits step 0) → good ≡ false → SoFar walk step → Some (Broke step (get_or exits step 0)) ≡ broken walk
+    → good ≡ passes_at keep step (get_or exits step 0) → good ≡ false → SoFar walk step → Some (Broke step (get_or exits step 0)) ≡ broken walk
 here walk steps keep count step exits good is few lt told fails so_far =
     let inside : step < length (take count exits) = subst (λ (k : ℕ). step < k) (sym (length-take-le count exits few)) lt in
     let so : SoFar (walk_of steps keep count exits) step = subst (λ (w : Walk). SoFar w step) is so_far in
@@ -48,7 +48,7 @@ here walk steps keep count step exits good is few lt told fails so_far =
     ∙ ap broken (sym is)
 
 pub later : (walk : Walk) (steps keep count step : ℕ) (exits : List ℕ) (good : Bool) → walk ≡ walk_of steps keep count exits → count ≤ length exits → step < count
-    → good ≡ passes keep step (get_or exits step 0) → good ≡ true → SoFar walk step → SoFar walk (step + 1)
+    → good ≡ passes_at keep step (get_or exits step 0) → good ≡ true → SoFar walk step → SoFar walk (step + 1)
 later walk steps keep count step exits good is few lt told passed so_far =
     let inside : step < length (take count exits) = subst (λ (k : ℕ). step < k) (sym (length-take-le count exits few)) lt in
     let so : SoFar (walk_of steps keep count exits) step = subst (λ (w : Walk). SoFar w step) is so_far in
@@ -66,19 +66,19 @@ some_not_none : (w : Walked) → Some w ≡ None → ⊥
 some_not_none w e = cc
 
 -- where none is broken, each passes
-if_passes : (keep start exit : ℕ) (exits : List ℕ) (b : Bool) → passes keep start exit ≡ b
+if_passes : (keep start exit : ℕ) (exits : List ℕ) (b : Bool) → passes_at keep start exit ≡ b
     → cond b (broken_from keep (start + 1) exits) (Some (Broke start exit)) ≡ None → (b ≡ true) × (broken_from keep (start + 1) exits ≡ None)
 if_passes keep start exit exits true e none = (refl, none)
 if_passes keep start exit exits false e none = absurd (some_not_none (Broke start exit) none)
 
-pub all_pass : (keep start : ℕ) (exits : List ℕ) (i : ℕ) → broken_from keep start exits ≡ None → i < length exits → passes keep (start + i) (get_or exits i 0) ≡ true
+pub all_pass : (keep start : ℕ) (exits : List ℕ) (i : ℕ) → broken_from keep start exits ≡ None → i < length exits → passes_at keep (start + i) (get_or exits i 0) ≡ true
 all_pass keep start [] i none lt = absurd (omega arith)
 all_pass keep start (exit ∷ exits) zero none lt =
     let on : start + zero ≡ start = omega arith in
-    ap (λ (k : ℕ). passes keep k exit) on ∙ (if_passes keep start exit exits (passes keep start exit) refl none).0
+    ap (λ (k : ℕ). passes_at keep k exit) on ∙ (if_passes keep start exit exits (passes_at keep start exit) refl none).0
 all_pass keep start (exit ∷ exits) (suc i) none lt =
     let on : start + suc i ≡ start + 1 + i = omega arith in
-    ap (λ (k : ℕ). passes keep k (get_or exits i 0)) on ∙ all_pass keep (start + 1) exits i (if_passes keep start exit exits (passes keep start exit) refl none).1 (omega arith)
+    ap (λ (k : ℕ). passes_at keep k (get_or exits i 0)) on ∙ all_pass keep (start + 1) exits i (if_passes keep start exit exits (passes_at keep start exit) refl none).1 (omega arith)
 
 -- a walk that has a next step: no exit is broken, and there are fewer exits than steps
 open_by : (walk : Walk) (o : Option Walked) (full : Bool) → broken walk ≡ o → (length walk.exits == walk.steps) ≡ full
@@ -114,7 +114,7 @@ ended_is walk steps keep count exit exits is room was most some =
             let early : step < length (take count exits) = omega (arith, longer, so_many, lt) in
             let same : get_or (take (count + 1) (set exits count exit)) step 0 ≡ get_or (take count exits) step 0
             = ap (λ (es : List ℕ). get_or es step 0) grown ∙ get_or_append_left (take count exits) (exit ∷ []) 0 step early in
-            ap (passes keep step) same ∙ (ap (λ (k : ℕ). passes keep k (get_or (take count exits) step 0)) (omega arith) ∙ all_pass keep 0 (take count exits) step open_now.0 early);
+            ap (passes_at keep step) same ∙ (ap (λ (k : ℕ). passes_at keep k (get_or (take count exits) step 0)) (omega arith) ∙ all_pass keep 0 (take count exits) step open_now.0 early);
       },
       omega (arith, fewer, top),
     )

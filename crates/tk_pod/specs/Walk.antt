@@ -1,5 +1,6 @@
 -- The walk of a pod through its steps.
 use Rattle.std.specs.Prelude.{ℕ, ◌+◌, ◌/◌, ◌%◌, ◌^◌, ◌≤◌, ◌<◌, Bool, true, ◌||◌, ◌==◌, if◌then◌else◌, List, [], ◌∷◌, length, Option, Some, None, is_none, get_or, ◌≡◌}
+use Rattle.tk_pod.specs.Exits.{continues, passes}
 use Rattle.tk_pod.specs.declared.walk.Walked.{Walked}
 use Rattle.tk_pod.specs.declared.walk.Walked.TheVariants.{Well, Broke}
 
@@ -9,19 +10,15 @@ pub record Walk : Type 0 where
   pub keep_going : ℕ
   pub exits : List ℕ
 
--- the step continues on error
-abbrev pub continues : ℕ → ℕ → Bool
-continues keep_going step = keep_going / 2 ^ step % 2 == 1
-
 -- the step passes with an exit
-abbrev pub passes : ℕ → ℕ → ℕ → Bool
-passes keep_going step exit = (exit == 0) || continues keep_going step
+abbrev pub passes_at : ℕ → ℕ → ℕ → Bool
+passes_at keep_going step exit = passes (continues keep_going step) exit
 
 -- of exits from a step on, the first that doesn't pass, with its step
 abbrev pub broken_from : ℕ → ℕ → List ℕ → Option Walked
 broken_from keep_going step [] = None
 broken_from keep_going step (exit ∷ exits) =
-    if passes keep_going step exit then broken_from keep_going (step + 1) exits else Some (Broke step exit)
+    if passes_at keep_going step exit then broken_from keep_going (step + 1) exits else Some (Broke step exit)
 
 abbrev pub broken : Walk → Option Walked
 broken walk = broken_from walk.keep_going 0 walk.exits
@@ -43,4 +40,4 @@ pub record IsWalk (walk : Walk) : Type 0 where
   pub least : 1 ≤ walk.steps
   pub most : walk.steps ≤ 32
   pub few : length walk.exits ≤ walk.steps
-  pub before_last : (step : ℕ) → step + 1 < length walk.exits → passes walk.keep_going step (get_or walk.exits step 0) ≡ true
+  pub before_last : (step : ℕ) → step + 1 < length walk.exits → passes_at walk.keep_going step (get_or walk.exits step 0) ≡ true

@@ -1,5 +1,5 @@
 ghost use Rattle.std.specs.Prelude.{◌≡◌, ◌≤◌, ◌<◌, ◌++◌, ◌∷◌, [], IsSome, length};
-ghost use Rattle.tk_pod.specs.Walk.{broken as first_broken, next_step, passes as passes_with, walked as walked_so, IsWalk};
+ghost use Rattle.tk_pod.specs.Walk.{broken as first_broken, next_step, passes_at as passes_with, walked as walked_so, IsWalk};
 
 use std::marker::Model;
 
