@@ -1,0 +1,4 @@
+pub mod Apart
+pub mod FolderExamples
+pub mod InOrder
+pub mod WordFacts
