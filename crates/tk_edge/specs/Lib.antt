@@ -1,1 +1,9 @@
+pub mod Armed
+pub mod Calls
+pub mod Causes
 pub mod Faults
+pub mod Files
+pub mod History
+pub mod InOrder
+pub mod Laws
+pub mod Memory

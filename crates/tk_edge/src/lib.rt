@@ -4,9 +4,15 @@
 //! bytes, and the adapters stand over any reader and writer.
 #![tactic(auto)]
 
+mod armed;
 mod clean;
+mod clean_host;
 mod cursor;
+mod event;
+mod host;
+pub mod laws;
 mod memory;
+mod miss;
 mod order;
 mod script;
 mod sink;
@@ -14,10 +20,16 @@ mod source;
 mod stream;
 #[cfg(test)]
 mod tests;
+mod texts;
 
+pub use armed::{Armed, armed_turn};
 pub use clean::{CleanSink, CleanSource};
+pub use clean_host::CleanHost;
+pub use event::{Arming, Event};
+pub use host::Host;
 pub use memory::{MemSink, MemSource};
-pub use order::Order;
-pub use sink::{Miss, Sink};
-pub use source::{Failed, Source};
+pub use miss::{Failed, Miss};
+pub use order::{Order, Poll, Watch};
+pub use sink::Sink;
+pub use source::Source;
 pub use stream::{ReadSource, WriteSink};

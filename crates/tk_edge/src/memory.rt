@@ -2,8 +2,9 @@ ghost use Rattle.std.specs.Prelude.{◌≡◌, [], drop, Some};
 
 use crate::cursor::Cursor;
 use crate::script::Script;
-use crate::sink::{Miss, Sink};
-use crate::source::{Failed, Source};
+use crate::miss::{Failed, Miss};
+use crate::sink::Sink;
+use crate::source::Source;
 use std::alloc::Global;
 use tk_types::{Bytes, List};
 

@@ -2,12 +2,7 @@ ghost use Rattle.std.specs.Prelude.{◌≡◌, ◌<◌, ◌≤◌, List, Option,
 ghost use Rattle.std.specs.Io.KnownBytes.{WriteAppends};
 ghost use Rattle.tk_edge.specs.Faults.{Rose};
 
-/// Why a write was refused: the outside failed, or memory ran out.
-#[derive(Clone, Copy, Debug, PartialEq, Eq)]
-pub enum Miss {
-    Failed,
-    Memory,
-}
+use crate::miss::Miss;
 
 /// Where bytes go, in pieces.
 pub trait Sink {

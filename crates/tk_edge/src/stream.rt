@@ -1,7 +1,8 @@
 ghost use Rattle.std.specs.Prelude.{◌≡◌};
 
-use crate::sink::{Miss, Sink};
-use crate::source::{Failed, Source};
+use crate::miss::{Failed, Miss};
+use crate::sink::Sink;
+use crate::source::Source;
 use std::io::{Read, Write};
 
 /// A source over a reader, as that of standard input.
