@@ -1,9 +1,13 @@
 pub mod Armed
 pub mod Calls
 pub mod Causes
-pub mod Faults
 pub mod Files
+pub mod Gates
 pub mod History
 pub mod InOrder
 pub mod Laws
+pub mod Manual
 pub mod Memory
+pub mod Readings
+pub mod Scripted
+pub mod Streams

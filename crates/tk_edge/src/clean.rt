@@ -1,4 +1,4 @@
-ghost use Rattle.std.specs.Prelude.{◌≡◌, [], drop, Some};
+ghost use Rattle.std.specs.Prelude.{◌≡◌, [], drop, false, Some};
 
 use crate::cursor::Cursor;
 use crate::miss::{Failed, Miss};
@@ -16,7 +16,8 @@ pub struct CleanSource {
 impl CleanSource {
     /// A source that gives these bytes.
     pub fn new(bytes: Bytes) -> Self
-        ensures { ⟦<CleanSource as Source>⟧.left result ≡ Some bytes }
+        ensures left { ⟦<CleanSource as Source>⟧.left result ≡ Some bytes }
+        ensures ended { ⟦<CleanSource as Source>⟧.ended result ≡ false }
     {
         CleanSource {
             cursor: Cursor::new(bytes),

@@ -1,4 +1,4 @@
-ghost use Rattle.std.specs.Prelude.{◌≡◌, ◌<◌, ◌≤◌, [], ◌++◌, drop, length, min, take, true};
+ghost use Rattle.std.specs.Prelude.{◌≡◌, ◌==◌, ◌≤◌, ◌++◌, ◌&&◌, ◌||◌, false, not, drop, length, min, take};
 
 use tk_types::Bytes;
 
@@ -14,6 +14,7 @@ pub struct Cursor {
 impl Cursor {
     pub fn new(bytes: Bytes) -> Self
         ensures left { drop result.position result.bytes ≡ bytes }
+        ensures ended { result.ended ≡ false }
     {
         Cursor {
             bytes,
@@ -24,14 +25,13 @@ impl Cursor {
 
     /// Copies as many bytes as there are and as fit, and gives their number.
     pub fn read(&mut self, buf: &mut [u8]) -> usize
-        ensures count { result ≤ length buf.new }
+        ensures count { result ≡ min (length (drop self.old.position self.old.bytes)) (length buf.new) }
         ensures bytes { drop self.old.position self.old.bytes ≡ take result buf.new ++ drop self.new.position self.new.bytes }
-        ensures end { result ≡ 0 → 0 < length buf.new → self.new.ended ≡ true }
-        ensures none_left { result ≡ 0 → 0 < length buf.new → drop self.new.position self.new.bytes ≡ [] }
+        ensures end { self.new.ended ≡ (self.old.ended || (result == 0 && not (length buf.new == 0))) }
     {
         let count = copy_front(&self.bytes.as_slice()[self.position..], buf);
         self.position += count;
-        self.ended = is_end(self.ended, count, buf.len());
+        self.ended = self.ended || (count == 0 && !buf.is_empty());
         count
     }
 }
@@ -44,11 +44,4 @@ fn copy_front(from: &[u8], to: &mut [u8]) -> usize
     let count = from.len().min(to.len());
     to[..count].copy_from_slice(&from[..count]);
     count
-}
-
-/// Whether the end was given before, or by a read of `count` bytes into a buffer with this room.
-fn is_end(ended: bool, count: usize, room: usize) -> bool
-    ensures given { count ≡ 0 → 0 < room → result ≡ true }
-{
-    ended || (count == 0 && room != 0)
 }

@@ -1,16 +1,28 @@
-//! The outside of the program: where its input comes from and where its text goes. Each trait has a written meaning,
-//! that is which bytes are left or were written, where that is told, and a count of faults that never falls: a call
-//! fails only where the count rises in it. Code above is generic over the traits. The forms in memory tell all their
-//! bytes, and the adapters stand over any reader and writer.
+//! The outside of the program: where its input comes from, where its text goes, what time it is, what an actor does
+//! next, and the folders, files and child programs that run its steps. Each trait has a written meaning, and a count of
+//! faults where its calls may fail, which rises by one in a call that fails and in no other. Code above is generic over
+//! the traits. The forms in memory tell all, and the adapters stand over any reader, writer and clock.
+//!
+//! A `Source` tells the bytes that are left, a `Sink` those that were written, a `Clock` its readings and a `Gate` its
+//! answers, where they tell them, the newest first. A `Host` tells **one history**, the list of what it did, the newest
+//! first: files put, folders cleared, files fetched, entries armed, steps started, ended and refused. Beside it it tells
+//! which children were killed and how often each was watched, which take no memory, and its files where it can. All else
+//! that is asked of a host is a function of its history. `laws` says what a kubelet keeps of it: its steps start in
+//! order, each at most once, each only once all before it passed.
 #![tactic(auto)]
 
 mod armed;
 mod clean;
 mod clean_host;
+mod clock;
 mod cursor;
 mod event;
+mod fresh;
+mod gate;
 mod host;
 pub mod laws;
+mod list_gate;
+mod manual;
 mod memory;
 mod miss;
 mod order;
@@ -18,6 +30,7 @@ mod script;
 mod sink;
 mod source;
 mod stream;
+mod system;
 #[cfg(test)]
 mod tests;
 mod texts;
@@ -25,11 +38,17 @@ mod texts;
 pub use armed::{Armed, armed_turn};
 pub use clean::{CleanSink, CleanSource};
 pub use clean_host::CleanHost;
+pub use clock::Clock;
 pub use event::{Arming, Event};
+pub use fresh::Fresh;
+pub use gate::{Gate, GateTurn};
 pub use host::Host;
+pub use list_gate::ListGate;
+pub use manual::ManualClock;
 pub use memory::{MemSink, MemSource};
 pub use miss::{Failed, Miss};
 pub use order::{Order, Poll, Watch};
 pub use sink::Sink;
 pub use source::Source;
 pub use stream::{ReadSource, WriteSink};
+pub use system::SystemClock;

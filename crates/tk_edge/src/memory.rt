@@ -1,11 +1,14 @@
-ghost use Rattle.std.specs.Prelude.{◌≡◌, [], drop, Some};
+ghost use Rattle.std.specs.Prelude.{◌≡◌, ◌+◌, ◌-◌, ◌^◌, ◌<◌, ◌++◌, ◌↔◌, [], if◌then◌else◌, false, is_ok, length, min, take, Contains, IfOk, IsErr, IsErrOf, OnErr, Some};
+ghost use Rattle.tk_edge.specs.Causes.{CountsFault};
+ghost use Rattle.tk_edge.specs.Streams.{CountsWrite, GivesEnd};
 
 use crate::cursor::Cursor;
-use crate::script::Script;
 use crate::miss::{Failed, Miss};
+use crate::script::Script;
 use crate::sink::Sink;
 use crate::source::Source;
 use std::alloc::Global;
+use std::marker::Model;
 use tk_types::{Bytes, List};
 
 /// A source over bytes in memory, of which the scripted calls fail.
@@ -15,11 +18,19 @@ pub struct MemSource {
     script: Script,
 }
 
+impl Model for MemSource {
+    ghost use Rattle.std.specs.Prelude.{drop};
+    ghost use Rattle.tk_edge.specs.Scripted.{source_of, ScriptedSource};
+
+    ghost Value = { ScriptedSource };
+
+    ghost view = { λ s. source_of (drop s.cursor.position s.cursor.bytes) s.cursor.ended s.script };
+}
+
 impl MemSource {
     /// A source that gives these bytes. `failing` has the numbers of the calls that fail, counted from 0.
     pub fn new(bytes: Bytes, failing: List<u64>) -> Self
-        ensures left { ⟦<MemSource as Source>⟧.left result ≡ Some bytes }
-        ensures faults { ⟦<MemSource as Source>⟧.faults result ≡ 0 }
+        ensures { result ≡ record { left = bytes; ended = false; failing = failing; calls = 0; faults = 0 } }
     {
         MemSource {
             cursor: Cursor::new(bytes),
@@ -29,13 +40,24 @@ impl MemSource {
 }
 
 impl Source for MemSource {
-    ghost left = { λ s. Some (drop s.cursor.position s.cursor.bytes) };
+    ghost left = { λ s. Some s.left };
 
-    ghost ended = { λ s. s.cursor.ended };
+    ghost ended = { λ s. s.ended };
 
-    ghost faults = { λ s. s.script.faults };
+    ghost faults = { λ s. s.faults };
 
-    fn read(&mut self, buf: &mut [u8]) -> Result<usize, Failed> {
+    /// The scripted calls fail, and no others. The number of calls stands still at 2^64 - 1.
+    fn read(&mut self, buf: &mut [u8]) -> Result<usize, Failed>
+        ensures scripted { IsErr result ↔ Contains self.old.failing self.old.calls }
+        ensures script { self.new.failing ≡ self.old.failing }
+        ensures counted { self.new.calls ≡ min (self.old.calls + 1) (2 ^ 64 - 1) }
+        ensures count { IfOk result (λ n. n ≡ min (length self.old.left) (length buf.new)) }
+        ensures bytes { IfOk result (λ n. self.old.left ≡ take n buf.new ++ self.new.left) }
+        ensures end { GivesEnd self.old.ended self.new.ended result buf.new }
+        ensures none_left { IfOk result (λ n. n ≡ 0 → 0 < length buf.new → self.new.left ≡ []) }
+        ensures err { OnErr result (self.new.left ≡ self.old.left) }
+        ensures faults { CountsFault self.old.faults self.new.faults result }
+    {
         if self.script.fails() {
             return Err(Failed);
         }
@@ -50,11 +72,18 @@ pub struct MemSink {
     script: Script,
 }
 
+impl Model for MemSink {
+    ghost use Rattle.tk_edge.specs.Scripted.{sink_of, ScriptedSink};
+
+    ghost Value = { ScriptedSink };
+
+    ghost view = { λ s. sink_of s.bytes.items s.script };
+}
+
 impl MemSink {
     /// A sink to which nothing was written. `failing` has the numbers of the calls that fail, counted from 0.
     pub fn new(alloc: Global, failing: List<u64>) -> Self
-        ensures written { ⟦<MemSink as Sink>⟧.written result ≡ Some [] }
-        ensures faults { ⟦<MemSink as Sink>⟧.faults result ≡ 0 }
+        ensures { result ≡ record { written = []; failing = failing; calls = 0; faults = 0 } }
     {
         MemSink {
             bytes: Vec::new(alloc),
@@ -64,18 +93,27 @@ impl MemSink {
 
     /// All that was written.
     pub fn bytes(&self) -> &[u8]
-        ensures { ⟦<MemSink as Sink>⟧.written self.now ≡ Some result.now }
+        ensures { result.now ≡ self.now.written }
     {
         self.bytes.as_slice()
     }
 }
 
 impl Sink for MemSink {
-    ghost written = { λ s. Some s.bytes.items };
+    ghost written = { λ s. Some s.written };
 
-    ghost faults = { λ s. s.script.faults };
+    ghost faults = { λ s. s.faults };
 
-    fn write(&mut self, piece: &[u8]) -> Result<usize, Miss> {
+    /// The scripted calls fail, and no others; memory may run out at each of the others. The number of calls stands
+    /// still at 2^64 - 1.
+    fn write(&mut self, piece: &[u8]) -> Result<usize, Miss>
+        ensures scripted { IsErrOf result Miss.Failed ↔ Contains self.old.failing self.old.calls }
+        ensures script { self.new.failing ≡ self.old.failing }
+        ensures counted { self.new.calls ≡ min (self.old.calls + 1) (2 ^ 64 - 1) }
+        ensures count { IfOk result (λ n. n ≡ length piece.now) }
+        ensures bytes { self.new.written ≡ (if is_ok result then self.old.written ++ piece.now else self.old.written) }
+        ensures faults { CountsWrite piece.now self.old.faults self.new.faults result }
+    {
         if self.script.fails() {
             return Err(Miss::Failed);
         }

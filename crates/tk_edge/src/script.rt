@@ -1,5 +1,5 @@
-ghost use Rattle.std.specs.Prelude.{◌≡◌, ◌+◌, ◌-◌, ◌^◌, ◌≤◌, ◌↔◌, min, true, Contains, IsTrue};
-ghost use Rattle.tk_edge.specs.Faults.{Rose};
+ghost use Rattle.std.specs.Prelude.{◌≡◌, ◌+◌, ◌-◌, ◌^◌, ◌↔◌, if◌then◌else◌, min, Contains, IsTrue};
+ghost use Rattle.tk_edge.specs.Causes.{raised};
 
 use tk_types::List;
 
@@ -25,9 +25,9 @@ impl Script {
     /// Counts one more call and tells whether it is to fail, which counts as a fault. Counts stop at their type's end.
     pub fn fails(&mut self) -> bool
         ensures scripted { IsTrue result ↔ Contains self.old.failing self.old.calls }
+        ensures script { self.new.failing ≡ self.old.failing }
         ensures counted { self.new.calls ≡ min (self.old.calls + 1) (2 ^ 64 - 1) }
-        ensures rose { result ≡ true → Rose self.old.faults self.new.faults }
-        ensures never_falls { self.old.faults ≤ self.new.faults }
+        ensures faults { self.new.faults ≡ (if result then raised self.old.faults else self.old.faults) }
     {
         let fails = self.failing.as_slice().contains(&self.calls);
         self.calls = self.calls.saturating_add(1);

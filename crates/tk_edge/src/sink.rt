@@ -1,6 +1,6 @@
-ghost use Rattle.std.specs.Prelude.{◌≡◌, ◌<◌, ◌≤◌, List, Option, ℕ, length, IfOk, IsErrOf};
+ghost use Rattle.std.specs.Prelude.{◌≤◌, List, Option, ℕ, length, IfOk};
 ghost use Rattle.std.specs.Io.KnownBytes.{WriteAppends};
-ghost use Rattle.tk_edge.specs.Faults.{Rose};
+ghost use Rattle.tk_edge.specs.Streams.{CountsWrite};
 
 use crate::miss::Miss;
 
@@ -9,7 +9,7 @@ pub trait Sink {
     /// The bytes that were written, where the sink tells them.
     ghost written: { Self → Option (List ℕ) };
 
-    /// How often a write has failed, a number that never falls.
+    /// How many writes have failed. A count of 2^64 - 1 stands still.
     ghost faults: { Self → ℕ };
 
     /// Writes bytes from the front of `piece` and gives their number. A sink that takes nothing of a piece that isn't
@@ -17,7 +17,5 @@ pub trait Sink {
     fn write(&mut self, piece: &[u8]) -> Result<usize, Miss>
         ensures count { IfOk result (λ n. n ≤ length piece.now) }
         ensures bytes { WriteAppends (written self.old) (written self.new) result piece.now }
-        ensures nothing_taken { IfOk result (λ n. n ≡ 0 → 0 < length piece.now → Rose (faults self.old) (faults self.new)) }
-        ensures failed { IsErrOf result Miss.Failed → Rose (faults self.old) (faults self.new) }
-        ensures never_falls { faults self.old ≤ faults self.new };
+        ensures faults { CountsWrite piece.now (faults self.old) (faults self.new) result };
 }

@@ -1,4 +1,4 @@
-ghost use Rattle.std.specs.Prelude.{◌≡◌};
+ghost use Rattle.std.specs.Prelude.{◌≡◌, false};
 
 use crate::miss::{Failed, Miss};
 use crate::sink::Sink;
@@ -16,7 +16,9 @@ pub struct ReadSource<R> {
 impl<R: Read> ReadSource<R> {
     /// A source that gives what the reader gives.
     pub fn new(reader: R) -> Self
-        ensures { ⟦<ReadSource<R> as Source>⟧.left result ≡ R.remaining reader }
+        ensures left { ⟦<ReadSource<R> as Source>⟧.left result ≡ R.remaining reader }
+        ensures ended { ⟦<ReadSource<R> as Source>⟧.ended result ≡ false }
+        ensures faults { ⟦<ReadSource<R> as Source>⟧.faults result ≡ 0 }
     {
         ReadSource {
             reader,
@@ -36,9 +38,7 @@ impl<R: Read> Source for ReadSource<R> {
     fn read(&mut self, buf: &mut [u8]) -> Result<usize, Failed> {
         match self.reader.read(buf) {
             Ok(count) => {
-                if count == 0 && !buf.is_empty() {
-                    self.ended = true;
-                }
+                self.ended = self.ended || (count == 0 && !buf.is_empty());
                 Ok(count)
             }
             Err(_) => {
@@ -59,7 +59,8 @@ pub struct WriteSink<W> {
 impl<W: Write> WriteSink<W> {
     /// A sink that hands all bytes to the writer.
     pub fn new(writer: W) -> Self
-        ensures { ⟦<WriteSink<W> as Sink>⟧.written result ≡ W.contents writer }
+        ensures written { ⟦<WriteSink<W> as Sink>⟧.written result ≡ W.contents writer }
+        ensures faults { ⟦<WriteSink<W> as Sink>⟧.faults result ≡ 0 }
     {
         WriteSink { writer, faults: 0 }
     }

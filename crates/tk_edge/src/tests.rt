@@ -1,11 +1,12 @@
 //! Each form and each adapter once, with ample memory.
 
 use crate::{
-    CleanSink, CleanSource, Failed, MemSink, MemSource, Miss, ReadSource, Sink, Source, WriteSink,
+    CleanSink, CleanSource, Clock, Failed, Fresh, Gate, GateTurn, ListGate, ManualClock, MemSink,
+    MemSource, Miss, ReadSource, Sink, Source, SystemClock, WriteSink,
 };
 use std::alloc::{AllocError, Global};
 use std::test::Fail;
-use tk_types::{Bytes, List};
+use tk_types::{Bytes, Kind, List};
 
 fn bytes(alloc: Global, text: &str) -> Result<Bytes, AllocError> {
     Ok(Bytes::from_vec(Vec::from_slice(alloc, text.as_bytes())?))
@@ -59,4 +60,88 @@ fn the_adapters_hand_bytes_on(rt: HostRuntime) -> Result<(), Fail> {
     let mut sink = WriteSink::new(Vec::new(rt.alloc()));
     assert_eq!(rt; sink.write(b"xyz"), Ok(3));
     Ok(())
+}
+
+#[test]
+fn a_manual_clock_stands_where_it_is_set(rt: HostRuntime) -> Result<(), Fail> {
+    let mut clock = ManualClock::new(rt.alloc());
+    assert_eq!(rt; clock.now(), 0);
+    let rows = [(5, 5), (3, 5), (7, 7), (253_402_300_800_000, 7)];
+    for (moment, reading) in rows {
+        clock.set(moment)?;
+        clock.rest();
+        assert_eq!(rt; clock.now(), reading);
+        assert_eq!(rt; clock.now(), reading);
+    }
+    Ok(())
+}
+
+#[test]
+fn the_system_clock_reads_on(rt: HostRuntime) -> Result<(), Fail> {
+    let mut clock = SystemClock::new(&rt);
+    let first = clock.now();
+    clock.rest();
+    let second = clock.now();
+    // Later than the first day of the year 2020.
+    assert!(rt; first > 1_577_836_800_000);
+    assert!(rt; second >= first);
+    Ok(())
+}
+
+#[test]
+fn a_list_gate_gives_its_list(rt: HostRuntime) -> Result<(), Fail> {
+    let (kind, n, position) = (Kind::Pods, 1, 2);
+    let rows = [
+        GateTurn::Deliver { kind, n },
+        GateTurn::Pause,
+        GateTurn::Relist { kind, position },
+        GateTurn::Work,
+    ];
+    let mut gate = ListGate::new(List::from_vec(Vec::from_slice(rt.alloc(), &rows)?));
+    for row in rows {
+        assert_eq!(rt; gate.next(9), row);
+    }
+    assert_eq!(rt; gate.next(9), GateTurn::Pause);
+    Ok(())
+}
+
+#[test]
+fn a_fresh_gate_delivers_kind_after_kind(rt: HostRuntime) {
+    let n = u64::MAX;
+    let rows = [
+        (0, GateTurn::Work),
+        (
+            3,
+            GateTurn::Deliver {
+                kind: Kind::Runs,
+                n,
+            },
+        ),
+        (
+            2,
+            GateTurn::Deliver {
+                kind: Kind::TaskRuns,
+                n,
+            },
+        ),
+        (0, GateTurn::Work),
+        (
+            1,
+            GateTurn::Deliver {
+                kind: Kind::Pods,
+                n,
+            },
+        ),
+        (
+            1,
+            GateTurn::Deliver {
+                kind: Kind::Runs,
+                n,
+            },
+        ),
+    ];
+    let mut gate = Fresh::new();
+    for (lag, answer) in rows {
+        assert_eq!(rt; gate.next(lag), answer);
+    }
 }

@@ -1,6 +1,0 @@
--- Counts of faults.
-use Rattle.std.specs.Prelude.{ℕ, ◌-◌, ◌^◌, ◌<◌, ◌≤◌, ◌⊎◌}
-
--- the count rose, or stands at the end of its type, where it counts as risen
-abbrev pub Rose : ℕ → ℕ → Type 0
-Rose before after = (before < after) ⊎ (2 ^ 64 - 1 ≤ after)

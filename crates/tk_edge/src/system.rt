@@ -1,0 +1,63 @@
+ghost use Rattle.std.specs.Prelude.{◌≡◌, ◌≤◌};
+ghost use Rattle.tk_edge.specs.Readings.{last_moment, reading_of};
+
+use crate::clock::Clock;
+use std::time::{Clock as Time, Duration};
+
+/// 9999-12-31T23:59:59.999Z in milliseconds since 1970-01-01 UTC.
+pub const LAST_MOMENT: u64 = 253_402_300_799_999;
+
+/// How long a clock of the system rests.
+const REST: u64 = 10;
+
+/// The next reading, where the system gives this time in milliseconds: the last one again where it gives none, an earlier
+/// one or one over the limit.
+fn reading(last: u64, time: Option<u128>) -> u64
+    ensures { result ≡ reading_of last time }
+{
+    match time {
+        Some(time) if last as u128 <= time && time <= LAST_MOMENT as u128 => time as u64,
+        _ => last,
+    }
+}
+
+/// The system's clock. It tells no list of readings.
+#[derive(Drop)]
+pub struct SystemClock<C> {
+    time: C,
+    last: u64,
+    ghost within: { last ≤ last_moment },
+}
+
+impl<C: Time> SystemClock<C> {
+    /// A clock over the system's, of which it takes a reading. It is 0 where there is none.
+    pub fn new(time: C) -> Self {
+        let last = reading(0, millis(&time));
+        SystemClock { time, last }
+    }
+}
+
+/// The system's time in milliseconds since 1970-01-01 UTC, where it gives one.
+fn millis<C: Time>(time: &C) -> Option<u128> {
+    match time.since_1970() {
+        Ok(since) => Some(since.as_millis()),
+        Err(_) => None,
+    }
+}
+
+impl<C: Time> Clock for SystemClock<C> {
+    ghost use Rattle.std.specs.Prelude.{None};
+
+    ghost last = { λ c. c.last };
+
+    ghost readings = { λ _. None };
+
+    fn now(&mut self) -> u64 {
+        self.last = reading(self.last, millis(&self.time));
+        self.last
+    }
+
+    fn rest(&mut self) {
+        self.time.sleep(Duration::from_millis(REST));
+    }
+}
