@@ -8,17 +8,10 @@ use Rattle.tk_edge.specs.declared.order.Watch.TheVariants as watches
 use Rattle.tk_edge.specs.declared.event.Event.{Event}
 use Rattle.tk_edge.specs.declared.event.Event.TheVariants as events
 use Rattle.tk_edge.specs.declared.armed.Armed.{Armed}
-use Rattle.tk_edge.specs.Files.{Files, WhereTold}
+use Rattle.tk_edge.specs.Files.{Files, WhereTold, broken}
+use Rattle.tk_edge.specs.Markers.{Stands}
 use Rattle.tk_edge.specs.History.{Has, IsNew, exit_of, started_orders}
 use Rattle.tk_edge.specs.Calls.{TellsExit}
-
--- the file stands
-abbrev pub Stands : List ℕ → Files → Type 0
-Stands path files = Has (files path) (λ _. Unit {0})
-
--- the file of a step that broke
-abbrev pub broken : List ℕ → List ℕ
-broken path = path ++ codes ".err"
 
 -- the file that tells an exit
 abbrev pub exit_text : ℕ → List ℕ

@@ -7,6 +7,7 @@ pub mod History
 pub mod InOrder
 pub mod Laws
 pub mod Manual
+pub mod Markers
 pub mod Memory
 pub mod Readings
 pub mod Scripted

@@ -1,12 +1,13 @@
 ghost use Rattle.std.specs.Prelude.{◌≡◌, ℕ, List, ◌∷◌, [], Option, Some, None, OnOk, OnErr, false, if◌then◌else◌};
 ghost use Rattle.tk_edge.specs.History.{started_orders};
 ghost use Rattle.tk_edge.specs.Causes.{Counts};
-ghost use Rattle.tk_edge.specs.Armed.{TurnGives, Looks, is_over, Posts, broken};
+ghost use Rattle.tk_edge.specs.Armed.{TurnGives, Looks, is_over, Posts};
+ghost use Rattle.tk_edge.specs.Files.{broken as broken_of};
 
 use crate::host::Host;
 use crate::miss::Miss;
 use crate::order::{Order, Poll, Watch};
-use crate::texts::joined;
+use crate::texts::broken;
 use std::alloc::Global;
 use tk_types::Text;
 
@@ -44,9 +45,9 @@ fn first_turn<H: Host>(alloc: Global, host: &mut H, armed: &mut Armed) -> Result
     ensures turn { TurnGives armed.old armed.new (H.told host.old) (H.told host.new) (H.files host.old) result }
     ensures count { Counts (H.faults host.old) (H.faults host.new) result }
 {
-    let failed = joined(alloc, armed.wait.as_str(), ".err")?;
+    let failed = broken(alloc, armed.wait.as_str())?;
     if host.look(failed.as_str())? {
-        let post = joined(alloc, armed.post.as_str(), ".err")?;
+        let post = broken(alloc, armed.post.as_str())?;
         host.put(post.as_str(), &[])?;
         armed.last = Some(Watch::Broke { exit: None });
         return Ok(Watch::Broke { exit: None });
@@ -101,7 +102,7 @@ fn post_exit<H: Host>(
     exit: u8,
     passed: bool,
 ) -> Result<(), Miss>
-    ensures posted { OnOk result (Posts armed.now.note exit (if passed then armed.now.post else broken armed.now.post) (H.told host.old) (H.told host.new)) }
+    ensures posted { OnOk result (Posts armed.now.note exit (if passed then armed.now.post else broken_of armed.now.post) (H.told host.old) (H.told host.new)) }
     ensures missed { OnErr result (started_orders (H.told host.new) ≡ started_orders (H.told host.old)) }
     ensures count { Counts (H.faults host.old) (H.faults host.new) result }
 {
@@ -112,7 +113,7 @@ fn post_exit<H: Host>(
     if passed {
         host.put(armed.post.as_str(), &[])
     } else {
-        let post = joined(alloc, armed.post.as_str(), ".err")?;
+        let post = broken(alloc, armed.post.as_str())?;
         host.put(post.as_str(), &[])
     }
 }

@@ -1,4 +1,4 @@
-ghost use Rattle.std.specs.Prelude.{slice_index_or, Err, MatchResult, take, true, false, ◌≡◌, ◌↔◌, ◌≤◌, ◌+◌, ℕ, List, [], ◌∷◌, reverse, Option, Some, None, option_map, OnOk, OnErr, IfOk, IsTrue, string_bytes};
+ghost use Rattle.std.specs.Prelude.{bytes_eq, slice_index_or, Err, MatchResult, take, true, false, ◌≡◌, ◌↔◌, ◌≤◌, ◌+◌, ℕ, List, [], ◌∷◌, reverse, Option, Some, None, option_map, OnOk, OnErr, IfOk, IsTrue, string_bytes, ◌<◌};
 ghost use Rattle.tk_edge.specs.History.{Has, IsNew, HasPassed, MayStart, exit_of, order_of, arming_of, is_refused, was_put};
 ghost use Rattle.std.specs.Option.{is_some};
 ghost use Rattle.tk_edge.specs.declared.miss.Miss.TheVariants.{Memory};
@@ -7,18 +7,22 @@ ghost use Rattle.tk_edge.specs.Calls.{TellsExit, TellsWatch};
 ghost use Rattle.tk_edge.specs.declared.order.Watch.TheVariants as shown;
 ghost use Rattle.tk_edge.specs.declared.event.Event.{Event as AnEvent};
 ghost use Rattle.tk_pod.specs.Exits.{passes as has_passed};
-ghost use Rattle.tk_edge.specs.Files.{is_under, MayChange, IsWatchFile};
-ghost use Rattle.tk_edge.specs.Memory.{file_of, is_named, ended_watch};
+ghost use Rattle.tk_edge.specs.Files.{is_under, MayChange};
+ghost use Rattle.tk_edge.specs.Causes.{Counts, CountsWatch};
+ghost use Rattle.tk_edge.specs.Memory.{file_of, is_named, ended_watch, leaves, child_passed, some_passed, HasEnded};
+ghost use Rattle.tk_edge.specs.Markers.{Stands, FollowsMarkers, IsFileOf};
 
 use crate::event::{Arming, Event};
 use crate::host::Host;
 use crate::miss::{Failed, Miss};
 use crate::order::{Order, Poll, Watch};
-use crate::texts::{bytes_of, joined};
+use crate::texts::{broken, bytes_of, is_broken};
 use std::alloc::Global;
 use tk_types::{Bytes, Text, TryCopy};
 
-/// A host in memory that never fails. Each child ends at its first poll, with one exit.
+/// A host in memory that never fails: its count of faults is always 0, so no call answers `Miss::Failed`. Its files are
+/// those that its history leaves. Each child ends at its first poll or at the first watch behind its start, with one
+/// exit for all. It gives 64 numbers, from 0 on, and then answers `Miss::Memory`; higher ones count as killed.
 #[derive(Drop)]
 pub struct CleanHost {
     alloc: Global,
@@ -30,7 +34,13 @@ pub struct CleanHost {
 }
 
 impl CleanHost {
-    pub fn new(alloc: Global, exit: u8) -> Self {
+    /// A host that did nothing, each child of which is to end with this exit.
+    pub fn new(alloc: Global, exit: u8) -> Self
+        ensures told { ⟦<CleanHost as Host>⟧.told result ≡ [] }
+        ensures alive { (child : ℕ) → child < 64 → ⟦<CleanHost as Host>⟧.killed result child ≡ false }
+        ensures watches { (child : ℕ) → ⟦<CleanHost as Host>⟧.watches result child ≡ 0 }
+        ensures faults { ⟦<CleanHost as Host>⟧.faults result ≡ 0 }
+    {
         CleanHost {
             alloc,
             events: Vec::new(alloc),
@@ -81,19 +91,38 @@ fn started_in(events: &[Event], child: u64) -> bool
     found
 }
 
-fn file_after<'a>(event: &'a Event, path: &str, found: Option<&'a Bytes>) -> Option<&'a Bytes>
-    ensures { (older : List AnEvent) → file_of path.now older ≡ option_map (λ b. b.now) found.entry → file_of path.now (event.now ∷ older) ≡ option_map (λ b. b.now) result }
+/// Whether the entry leaves a file at this path, with its exit or where it was refused.
+fn leaves(path: &str, exit: Option<u8>, arming: Option<&Arming>) -> bool
+    ensures { result ≡ leaves path.now exit (option_map (λ a. a.now) arming.entry) }
+{
+    match (arming, exit) {
+        (Some(arming), Some(exit)) if passes(arming.keep_going, exit) => path == arming.post.as_str(),
+        (Some(arming), _) => is_broken(path.as_bytes(), arming.post.as_str().as_bytes()),
+        (None, _) => false,
+    }
+}
+
+/// The file at a path once this event came, too.
+fn file_after<'a>(
+    older: &'a [Event],
+    event: &'a Event,
+    path: &str,
+    found: Option<&'a [u8]>,
+) -> Option<&'a [u8]>
+    ensures { file_of path.now (reverse older.now) ≡ option_map (λ b. b.now) found.entry → file_of path.now (event.now ∷ reverse older.now) ≡ option_map (λ b. b.now) result }
 {
     match event {
         Event::Put {
             path: other,
             bytes,
             answered: true,
-        } if path == other.as_str() => Some(bytes),
+        } if path == other.as_str() => Some(bytes.as_slice()),
         Event::Cleared {
             folder,
             answered: true,
         } if is_below(folder, path) => None,
+        Event::Exited { child, exit } if leaves(path, Some(*exit), arming_in(older, *child)) => Some(&[]),
+        Event::Refused { child } if leaves(path, None, arming_in(older, *child)) => Some(&[]),
         _ => found,
     }
 }
@@ -109,12 +138,13 @@ fn is_below(folder: &Text, path: &str) -> bool
     }
 }
 
-fn file_in<'a>(events: &'a [Event], path: &str) -> Option<&'a Bytes>
+/// The bytes of the file at a path.
+fn file_in<'a>(events: &'a [Event], path: &str) -> Option<&'a [u8]>
     ensures { file_of path.now (reverse events.now) ≡ option_map (λ b. b.now) result }
 {
     let mut found = None;
-    for event in events {
-        found = file_after(event, path, found);
+    for index in 0..events.len() {
+        found = file_after(&events[..index], &events[index], path, found);
     }
     found
 }
@@ -215,9 +245,9 @@ fn passes(keep_going: bool, exit: u8) -> bool
     exit == 0 || keep_going
 }
 
-// The child was armed in the pod with this post file, and passed.
-fn entry_passed(events: &[Event], child: u64, pod: &Text, path: &Text) -> bool
-    ensures { IsTrue result → HasPassed pod.now path.now (reverse events.now) }
+/// Whether the child was armed in the pod with this post file, and passed.
+fn child_passed(events: &[Event], child: u64, pod: &Text, path: &Text) -> bool
+    ensures { result ≡ child_passed pod.now path.now (reverse events.now) child }
 {
     match (arming_in(events, child), exit_in(events, child)) {
         (Some(arming), Some(exit)) => {
@@ -229,23 +259,47 @@ fn entry_passed(events: &[Event], child: u64, pod: &Text, path: &Text) -> bool
     }
 }
 
-fn some_passed(events: &[Event], pod: &Text, path: &Text) -> bool
-    ensures { IsTrue result → HasPassed pod.now path.now (reverse events.now) }
+/// Whether one of the entries so far passed, and with this event.
+fn passed_after(events: &[Event], event: &Event, pod: &Text, path: &Text, found: bool) -> bool
+    ensures { (older : List AnEvent) → some_passed pod.now path.now (reverse events.now) older ≡ found → some_passed pod.now path.now (reverse events.now) (event.now ∷ older) ≡ result }
 {
-    for event in events {
-        if let Event::Armed { child, .. } = event {
-            if entry_passed(events, *child, pod, path) {
-                return true;
-            }
-        }
+    match event {
+        Event::Armed { child, .. } => child_passed(events, *child, pod, path) || found,
+        _ => found,
     }
-    false
 }
 
+/// Whether an entry of the pod with this post file passed.
+fn some_passed(events: &[Event], pod: &Text, path: &Text) -> bool
+    ensures { some_passed pod.now path.now (reverse events.now) (reverse events.now) ≡ result }
+{
+    let mut found = false;
+    for event in events {
+        found = passed_after(events, event, pod, path, found);
+    }
+    found
+}
+
+/// Whether the entry may start, by what the host did.
 fn may_start(events: &[Event], arming: &Arming) -> bool
-    ensures { IsTrue result → MayStart arming.now (reverse events.now) }
+    ensures { IsTrue result ↔ MayStart arming.now (reverse events.now) }
 {
     put_in(events, arming.wait.as_str()) || some_passed(events, &arming.order.pod, &arming.wait)
+}
+
+/// Whether a file stands at this path.
+#[tactic(auto, using(crate::proofs::Starts::stands_iff))]
+fn stands(events: &[Event], path: &str) -> bool
+    ensures { IsTrue result ↔ Stands path.now (λ p. file_of p (reverse events.now)) }
+{
+    file_in(events, path).is_some()
+}
+
+/// Whether the entry's wait file stands, and it may start.
+fn is_ready(events: &[Event], arming: &Arming) -> bool
+    ensures { IsTrue result ↔ (Stands arming.now.wait (λ p. file_of p (reverse events.now)) × MayStart arming.now (reverse events.now)) }
+{
+    stands(events, arming.wait.as_str()) && may_start(events, arming)
 }
 
 impl CleanHost {
@@ -297,7 +351,8 @@ impl CleanHost {
 }
 
 fn ended(keep_going: bool, exit: u8) -> Watch
-    ensures { result ≡ ended_watch keep_going exit }
+    ensures exact { result ≡ ended_watch keep_going exit }
+    ensures ends { HasEnded result }
 {
     if passes(keep_going, exit) {
         Watch::Passed { exit }
@@ -308,12 +363,14 @@ fn ended(keep_going: bool, exit: u8) -> Watch
 
 impl CleanHost {
     // One turn of the armed entry.
-    #[tactic(auto, using(crate::proofs::Remembers::ended_told))]
+    #[tactic(auto, using(crate::proofs::Remembers::ended_told, crate::proofs::Starts::waits_fit, crate::proofs::Starts::starts_fit, crate::proofs::Starts::refused_fit))]
     fn watch_once(&mut self, child: u64) -> Result<Watch, Miss>
         requires { Has (arming_of child (reverse self.old.events.items)) (λ _. Unit {0}) }
         ensures told { TellsWatch child (reverse self.old.events.items) (reverse self.new.events.items) result }
         ensures alive { IfOk result (λ watch. watch ≡ shown.Started → slice_index_or self.old.killed child true ≡ false) }
-        ensures others { MayChange (λ path. Has (arming_of child (reverse self.old.events.items)) (λ arming. IsWatchFile arming path)) (Some (λ path. file_of path (reverse self.old.events.items))) (Some (λ path. file_of path (reverse self.new.events.items))) }
+        ensures markers { IfOk result (FollowsMarkers child (slice_index_or self.old.killed child true) (reverse self.old.events.items) (Some (λ path. file_of path (reverse self.old.events.items)))) }
+        ensures ends { IfOk result (λ watch. is_some (order_of child (reverse self.old.events.items)) ≡ true → HasEnded watch) }
+        ensures others { MayChange (IsFileOf child (reverse self.old.events.items)) (Some (λ path. file_of path (reverse self.old.events.items))) (Some (λ path. file_of path (reverse self.new.events.items))) }
         ensures killed { self.new.killed ≡ self.old.killed }
         ensures watches { self.new.watches ≡ self.old.watches }
         ensures memory { OnErr result (result ≡ Err Memory) }
@@ -338,12 +395,12 @@ impl CleanHost {
         if child >= 64 || self.killed[child as usize] {
             return Ok(Watch::Waits);
         }
-        let failed = joined(self.alloc, arming.wait.as_str(), ".err")?;
-        if put_in(&self.events, failed.as_str()) {
-            self.events.push(Event::Refused { child })?;
+        let failed = broken(self.alloc, arming.wait.as_str())?;
+        if stands(&self.events, failed.as_str()) {
+            self.remember(Event::Refused { child })?;
             return Ok(Watch::Broke { exit: None });
         }
-        if !may_start(&self.events, arming) {
+        if !is_ready(&self.events, arming) {
             return Ok(Watch::Waits);
         }
         let order = arming.order.copy(self.alloc)?;
@@ -406,7 +463,7 @@ impl Host for CleanHost {
         if let Some(exit) = exit_in(&self.events, child) {
             return Ok(Poll::Exited(exit));
         }
-        if !started_in(&self.events, child) {
+        if !started_in(&self.events, child) || arming_in(&self.events, child).is_some() {
             return Ok(Poll::Runs);
         }
         Ok(Poll::Exited(self.end(child)?))
@@ -430,7 +487,17 @@ impl Host for CleanHost {
         Ok(child)
     }
 
-    fn watch(&mut self, child: u64) -> Result<Watch, Miss> {
+    fn watch(&mut self, child: u64) -> Result<Watch, Miss>
+        requires { Has (arming_of child (⟦<CleanHost as Host>⟧.told self.old)) (λ _. Unit {0}) }
+        ensures told { TellsWatch child (⟦<CleanHost as Host>⟧.told self.old) (⟦<CleanHost as Host>⟧.told self.new) result }
+        ensures alive { IfOk result (λ watch. watch ≡ shown.Started → ⟦<CleanHost as Host>⟧.killed self.old child ≡ false) }
+        ensures markers { IfOk result (FollowsMarkers child (⟦<CleanHost as Host>⟧.killed self.old child) (⟦<CleanHost as Host>⟧.told self.old) (⟦<CleanHost as Host>⟧.files self.old)) }
+        ensures ends { IfOk result (λ watch. is_some (order_of child (⟦<CleanHost as Host>⟧.told self.old)) ≡ true → HasEnded watch) }
+        ensures others { MayChange (IsFileOf child (⟦<CleanHost as Host>⟧.told self.old)) (⟦<CleanHost as Host>⟧.files self.old) (⟦<CleanHost as Host>⟧.files self.new) }
+        ensures killed { ⟦<CleanHost as Host>⟧.killed self.new ≡ ⟦<CleanHost as Host>⟧.killed self.old }
+        ensures watches { CountsWatch child (⟦<CleanHost as Host>⟧.watches self.old) (⟦<CleanHost as Host>⟧.watches self.new) result }
+        ensures count { Counts (⟦<CleanHost as Host>⟧.faults self.old) (⟦<CleanHost as Host>⟧.faults self.new) result }
+    {
         if child >= 64 {
             return Err(Miss::Memory);
         }
@@ -459,20 +526,19 @@ fn copy_bytes(alloc: Global, bytes: &Option<Bytes>) -> Result<Option<Bytes>, Mis
 }
 
 // At most so many bytes of the file.
-fn first_bytes(alloc: Global, file: Option<&Bytes>, limit: u64) -> Result<Option<Bytes>, Miss>
+fn first_bytes(alloc: Global, file: Option<&[u8]>, limit: u64) -> Result<Option<Bytes>, Miss>
     ensures first { IfOk result (λ bytes. bytes ≡ option_map (λ b. take limit b.now) file.entry) }
     ensures memory { OnErr result (result ≡ Err Memory) }
 {
     match file {
         None => Ok(None),
         Some(file) => {
-            let bytes = file.as_slice();
-            let count = if (bytes.len() as u64) < limit {
-                bytes.len()
+            let count = if (file.len() as u64) < limit {
+                file.len()
             } else {
                 limit as usize
             };
-            Ok(Some(bytes_of(alloc, &bytes[..count])?))
+            Ok(Some(bytes_of(alloc, &file[..count])?))
         }
     }
 }

@@ -2,7 +2,8 @@ use crate::order::Order;
 use std::alloc::{AllocError, Global};
 use tk_types::{Bytes, Text, TryCopy};
 
-/// What an entrypoint is armed with.
+/// What an entrypoint is armed with: its order, the file that it waits for and the file that it leaves behind its
+/// step, and whether the step passes with any exit (Tekton, Tasks, Specifying `onError` for a step).
 #[derive(Drop)]
 pub struct Arming {
     pub order: Order,

@@ -1,7 +1,7 @@
 use std::alloc::{AllocError, Global};
 use tk_types::{List, Pair, Text, TryCopy};
 
-/// One step of a pod as a host starts it: its words, its environment and the folder that it runs in.
+/// One step of a pod as a kubelet starts it: its words, its environment and the folder that it runs in.
 #[derive(Drop)]
 pub struct Order {
     pub pod: Text,
@@ -23,14 +23,15 @@ impl TryCopy for Order {
     }
 }
 
-/// Whether a child runs, or with which exit it ended.
+/// What a host answers of a child: that it runs, or the exit with which it ended.
 #[derive(Clone, Copy, Debug, PartialEq, Eq)]
 pub enum Poll {
     Runs,
     Exited(u8),
 }
 
-/// What one turn of an entrypoint gave. `Broke` without an exit: its wait file stood with `.err`.
+/// What one turn of an entrypoint gave. `Passed` and `Broke` are answered for good: its step ended and passes, or it
+/// doesn't. `Broke` without an exit: the step before it broke, so its own never started.
 #[derive(Clone, Copy, Debug, PartialEq, Eq)]
 pub enum Watch {
     Waits,

@@ -1,15 +1,29 @@
-ghost use Rattle.std.specs.Prelude.{◌≡◌, ◌++◌, IfOk};
+ghost use Rattle.std.specs.Prelude.{◌≡◌, bytes_eq, IfOk};
+ghost use Rattle.tk_edge.specs.Files.{broken};
 
 use std::alloc::{AllocError, Global};
 use tk_types::{Bytes, Text};
 
-/// A text and another behind it.
-pub(crate) fn joined(alloc: Global, front: &str, behind: &str) -> Result<Text, AllocError>
-    ensures { IfOk result (λ text. text ≡ front.now ++ behind.now) }
+/// What stands behind the name of a step's file, where the step broke.
+const BROKEN: &str = ".err";
+
+/// The path of a step's file, where the step broke.
+pub(crate) fn broken(alloc: Global, path: &str) -> Result<Text, AllocError>
+    ensures { IfOk result (λ text. text ≡ broken path.now) }
 {
-    let mut text = String::from_str(alloc, front)?;
-    text.push_str(behind)?;
+    let mut text = String::from_str(alloc, path)?;
+    text.push_str(BROKEN)?;
     Ok(Text::from_string(text))
+}
+
+/// Whether a path is that of a step's file, where the step broke.
+pub(crate) fn is_broken(path: &[u8], file: &[u8]) -> bool
+    ensures { result ≡ bytes_eq path.now (broken file.now) }
+{
+    match path.strip_prefix(file) {
+        Some(rest) => rest == BROKEN.as_bytes(),
+        None => false,
+    }
 }
 
 /// A copy of these bytes.
