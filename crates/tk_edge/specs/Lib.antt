@@ -4,6 +4,7 @@ pub mod Causes
 pub mod Files
 pub mod Gates
 pub mod History
+pub mod HostLog
 pub mod InOrder
 pub mod Laws
 pub mod Manual

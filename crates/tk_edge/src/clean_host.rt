@@ -207,7 +207,7 @@ fn put_after(event: &Event, path: &str, found: bool) -> bool
     }
 }
 
-fn put_in(events: &[Event], path: &str) -> bool
+pub(crate) fn put_in(events: &[Event], path: &str) -> bool
     ensures { was_put path.now (reverse events.now) ≡ result }
 {
     let mut found = false;
@@ -239,7 +239,7 @@ fn arming_in<'a>(events: &'a [Event], child: u64) -> Option<&'a Arming>
     found
 }
 
-fn passes(keep_going: bool, exit: u8) -> bool
+pub(crate) fn passes(keep_going: bool, exit: u8) -> bool
     ensures { result ≡ has_passed keep_going exit }
 {
     exit == 0 || keep_going
@@ -350,7 +350,7 @@ impl CleanHost {
     }
 }
 
-fn ended(keep_going: bool, exit: u8) -> Watch
+pub(crate) fn ended(keep_going: bool, exit: u8) -> Watch
     ensures exact { result ≡ ended_watch keep_going exit }
     ensures ends { HasEnded result }
 {
@@ -515,7 +515,7 @@ impl Host for CleanHost {
     }
 }
 
-fn copy_bytes(alloc: Global, bytes: &Option<Bytes>) -> Result<Option<Bytes>, Miss>
+pub(crate) fn copy_bytes(alloc: Global, bytes: &Option<Bytes>) -> Result<Option<Bytes>, Miss>
     ensures same { IfOk result (λ copied. copied ≡ bytes.now) }
     ensures memory { OnErr result (result ≡ Err Memory) }
 {

@@ -20,6 +20,7 @@ mod event;
 mod fresh;
 mod gate;
 mod host;
+mod host_log;
 pub mod laws;
 mod list_gate;
 mod manual;

@@ -1,0 +1,335 @@
+//! The record of a host's history, with an index by child, so that no question scans the history. It calls no system.
+ghost use Rattle.std.specs.Prelude.{◌≡◌, ◌≤◌, ◌<◌, ◌+◌, ◌-◌, ℕ, true, false, [], ◌∷◌, Option, Some, None, option_map, OnOk, OnErr, IfOk, nat_eq, ◌||◌, ◌++◌, vec_len, vec_capacity, IsTrue};
+ghost use Rattle.std.specs.Option.{is_some, OnSome};
+ghost use Rattle.std.specs.Bool.{OnTrue};
+ghost use Rattle.tk_edge.specs.declared.event.Event.TheVariants.{Put, Cleared, Fetched, Armed, Started, Refused, Exited};
+ghost use Rattle.tk_edge.specs.Causes.{IsWatchedOnce};
+ghost use Rattle.tk_edge.specs.History.{IsNew, HasPassed, MayStart, arming_of, order_of, exit_of, is_refused, was_put};
+ghost use Rattle.tk_edge.specs.HostLog.{counts, flags};
+
+use crate::clean_host::{passes, put_in};
+use crate::event::{Arming, Event};
+use crate::order::Order;
+use std::alloc::{AllocError, Global};
+use std::marker::Model;
+use tk_types::{Bytes, Text, TryCopy};
+
+/// What the history says of one child, whose number is its place.
+#[derive(Drop)]
+pub struct ChildLog {
+    pub armed: Option<Arming>,
+    pub started: bool,
+    pub exit: Option<u8>,
+    pub refused: bool,
+}
+
+/// All that a host did, the oldest first, and what that says of each child.
+#[derive(Drop)]
+pub struct HostLog {
+    events: Vec<Event>,
+    children: Vec<ChildLog>,
+    killed: Vec<bool>,
+    watches: Vec<u64>,
+}
+
+impl Model for HostLog {
+    ghost use Rattle.std.specs.Prelude.{◌≡◌, ◌-◌, reverse, min, vec_len, vec_capacity, length};
+    ghost use Rattle.tk_edge.specs.HostLog.{Logged, IsIndexed};
+
+    ghost Value = { Logged };
+
+    ghost view = { λ log. record {
+      told = reverse log.events.items;
+      killed = log.killed.items;
+      watches = log.watches.items;
+      count = length log.children.items;
+      room = vec_capacity log.events - vec_len log.events;
+      child_room = min (vec_capacity log.children - vec_len log.children) (vec_capacity log.watches - vec_len log.watches);
+    } };
+
+    ghost invariant = { λ log. IsIndexed (reverse log.events.items) log.children.items × (length log.watches.items ≡ length log.children.items) };
+}
+
+impl HostLog {
+    /// The record of a host that did nothing, which can give so many numbers of children.
+    pub fn new(alloc: Global, most: usize) -> Result<Self, AllocError>
+        ensures told { IfOk result (λ log. log.told ≡ []) }
+    {
+        Ok(HostLog {
+            events: Vec::new(alloc),
+            children: Vec::new(alloc),
+            killed: vec![in alloc; false; most]?,
+            watches: Vec::new(alloc),
+        })
+    }
+
+    /// Makes room for one more event and one more child. The only error is want of memory.
+    pub fn make_room(&mut self) -> Result<(), AllocError>
+        ensures room { OnOk result (0 < self.new.room) }
+        ensures child_room { OnOk result (0 < self.new.child_room) }
+        ensures told { self.new.told ≡ self.old.told }
+        ensures killed { self.new.killed ≡ self.old.killed }
+        ensures watches { self.new.watches ≡ self.old.watches }
+        ensures count { self.new.count ≡ self.old.count }
+    {
+        self.events.reserve(1)?;
+        self.children.reserve(1)?;
+        self.watches.reserve(1)
+    }
+
+    /// What the child was armed with.
+    pub fn arming(&self, child: u64) -> Option<&Arming>
+        ensures armed { option_map (λ a. a.now) result ≡ arming_of child self.now.told }
+        ensures known { OnSome result (child < self.now.count) }
+    {
+        match self.children.get(child as usize) {
+            Some(entry) => entry.armed.as_ref(),
+            None => None,
+        }
+    }
+
+    /// Whether the child was started.
+    pub fn has_started(&self, child: u64) -> bool
+        ensures started { result ≡ is_some (order_of child self.now.told) }
+        ensures known { OnTrue result (child < self.now.count) }
+    {
+        match self.children.get(child as usize) {
+            Some(entry) => entry.started,
+            None => false,
+        }
+    }
+
+    /// With which exit the child was found ended.
+    pub fn exit(&self, child: u64) -> Option<u8>
+        ensures { result ≡ exit_of child self.now.told }
+    {
+        match self.children.get(child as usize) {
+            Some(entry) => entry.exit,
+            None => None,
+        }
+    }
+
+    /// Whether the child's wait file was found with `.err`.
+    pub fn is_refused(&self, child: u64) -> bool
+        ensures { result ≡ is_refused child self.now.told }
+    {
+        match self.children.get(child as usize) {
+            Some(entry) => entry.refused,
+            None => false,
+        }
+    }
+
+    /// Whether the number was killed. One that is never given counts as killed.
+    pub fn is_killed(&self, child: u64) -> bool
+        ensures { result ≡ flags self.now.killed child }
+    {
+        match self.killed.get(child as usize) {
+            Some(killed) => *killed,
+            None => true,
+        }
+    }
+
+    /// How many children there are, which is the number of the next.
+    pub fn count(&self) -> u64
+        ensures count { result ≡ self.now.count }
+        ensures fresh { IsNew result self.now.told }
+    {
+        self.children.len() as u64
+    }
+
+    /// Tells a put.
+    pub fn note_put(&mut self, path: Text, bytes: Bytes, answered: bool)
+        requires { 0 < self.old.room }
+        ensures told { self.new.told ≡ Put path bytes answered ∷ self.old.told }
+        ensures killed { self.new.killed ≡ self.old.killed }
+        ensures watches { self.new.watches ≡ self.old.watches }
+    {
+        push_within(
+            &mut self.events,
+            Event::Put {
+                path,
+                bytes,
+                answered,
+            },
+        );
+    }
+
+    /// Tells a clear.
+    pub fn note_clear(&mut self, folder: Text, answered: bool)
+        requires { 0 < self.old.room }
+        ensures told { self.new.told ≡ Cleared folder answered ∷ self.old.told }
+        ensures killed { self.new.killed ≡ self.old.killed }
+        ensures watches { self.new.watches ≡ self.old.watches }
+    {
+        push_within(&mut self.events, Event::Cleared { folder, answered });
+    }
+
+    /// Tells what a fetch answered.
+    pub fn note_fetched(&mut self, path: Text, bytes: Option<Bytes>)
+        requires { 0 < self.old.room }
+        ensures told { self.new.told ≡ Fetched path bytes ∷ self.old.told }
+        ensures killed { self.new.killed ≡ self.old.killed }
+        ensures watches { self.new.watches ≡ self.old.watches }
+    {
+        push_within(&mut self.events, Event::Fetched { path, bytes });
+    }
+
+    /// A new child, which is armed. The only error is want of memory, and nothing is told then.
+    pub fn arm(&mut self, alloc: Global, arming: Arming) -> Result<u64, AllocError>
+        ensures number { IfOk result (λ child. child ≡ self.old.count) }
+        ensures fresh { IfOk result (λ child. IsNew child self.old.told) }
+        ensures told { IfOk result (λ child. self.new.told ≡ Armed child arming ∷ self.old.told) }
+        ensures same { OnErr result (self.new.told ≡ self.old.told) }
+        ensures killed { self.new.killed ≡ self.old.killed }
+        ensures watches { counts self.new.watches ≡ counts self.old.watches }
+    {
+        self.make_room()?;
+        let kept = arming.copy(alloc)?;
+        let child = self.count();
+        push_within(&mut self.events, Event::Armed { child, arming });
+        push_within(
+            &mut self.children,
+            ChildLog {
+                armed: Some(kept),
+                started: false,
+                exit: None,
+                refused: false,
+            },
+        );
+        push_within(&mut self.watches, 0);
+        Ok(child)
+    }
+
+    /// A new child, which was started.
+    pub fn start(&mut self, order: Order) -> u64
+        requires room { 0 < self.old.room }
+        requires child_room { 0 < self.old.child_room }
+        ensures number { result ≡ self.old.count }
+        ensures fresh { IsNew result self.old.told }
+        ensures told { self.new.told ≡ Started result order ∷ self.old.told }
+        ensures killed { self.new.killed ≡ self.old.killed }
+        ensures watches { counts self.new.watches ≡ counts self.old.watches }
+    {
+        let child = self.count();
+        push_within(&mut self.events, Event::Started { child, order });
+        push_within(
+            &mut self.children,
+            ChildLog {
+                armed: None,
+                started: true,
+                exit: None,
+                refused: false,
+            },
+        );
+        push_within(&mut self.watches, 0);
+        child
+    }
+
+    /// Tells that an armed child was started.
+    pub fn started(&mut self, child: u64, order: Order)
+        requires room { 0 < self.old.room }
+        requires known { child < self.old.count }
+        ensures told { self.new.told ≡ Started child order ∷ self.old.told }
+        ensures killed { self.new.killed ≡ self.old.killed }
+        ensures watches { self.new.watches ≡ self.old.watches }
+    {
+        self.children[child as usize].started = true;
+        push_within(&mut self.events, Event::Started { child, order });
+    }
+
+    /// Tells with which exit a child was found ended.
+    pub fn exited(&mut self, child: u64, exit: u8)
+        requires room { 0 < self.old.room }
+        requires known { child < self.old.count }
+        ensures told { self.new.told ≡ Exited child exit ∷ self.old.told }
+        ensures killed { self.new.killed ≡ self.old.killed }
+        ensures watches { self.new.watches ≡ self.old.watches }
+    {
+        self.children[child as usize].exit = Some(exit);
+        push_within(&mut self.events, Event::Exited { child, exit });
+    }
+
+    /// Tells that a child's wait file was found with `.err`.
+    pub fn refused(&mut self, child: u64)
+        requires room { 0 < self.old.room }
+        requires known { child < self.old.count }
+        ensures told { self.new.told ≡ Refused child ∷ self.old.told }
+        ensures killed { self.new.killed ≡ self.old.killed }
+        ensures watches { self.new.watches ≡ self.old.watches }
+    {
+        self.children[child as usize].refused = true;
+        push_within(&mut self.events, Event::Refused { child });
+    }
+
+    /// Marks a number as killed. It takes no memory.
+    pub fn kill(&mut self, child: u64)
+        ensures killed { (other : ℕ) → flags self.new.killed other ≡ (nat_eq other child || flags self.old.killed other) }
+        ensures told { self.new.told ≡ self.old.told }
+        ensures watches { self.new.watches ≡ self.old.watches }
+        ensures count { self.new.count ≡ self.old.count }
+    {
+        if (child as usize) < self.killed.len() {
+            self.killed[child as usize] = true;
+        }
+    }
+
+    /// Counts a watch of a child.
+    pub fn watched(&mut self, child: u64)
+        requires { child < self.old.count }
+        ensures watches { IsWatchedOnce child (counts self.old.watches) (counts self.new.watches) }
+        ensures told { self.new.told ≡ self.old.told }
+        ensures killed { self.new.killed ≡ self.old.killed }
+    {
+        let count = self.watches[child as usize];
+        self.watches[child as usize] = count.saturating_add(1);
+    }
+}
+
+impl HostLog {
+    // The child was armed in the pod with this post file, and passed.
+    fn entry_passed(&self, child: u64, pod: &Text, path: &Text) -> bool
+        ensures { IsTrue result → HasPassed pod.now path.now self.now.told }
+    {
+        match (self.arming(child), self.exit(child)) {
+            (Some(arming), Some(exit)) => {
+                arming.order.pod.as_str() == pod.as_str()
+                    && arming.post.as_str() == path.as_str()
+                    && passes(arming.keep_going, exit)
+            }
+            _ => false,
+        }
+    }
+
+    fn some_passed(&self, pod: &Text, path: &Text) -> bool
+        ensures { IsTrue result → HasPassed pod.now path.now self.now.told }
+    {
+        for child in 0..self.count() {
+            if self.entry_passed(child, pod, path) {
+                return true;
+            }
+        }
+        false
+    }
+
+    fn was_put(&self, path: &str) -> bool
+        ensures { was_put path.now self.now.told ≡ result }
+    {
+        put_in(&self.events, path)
+    }
+
+    /// Whether the wait file of an armed child stands, by what the host did: it was put, or it's the post file of an
+    /// entry of the same pod that passed.
+    pub fn may_start(&self, arming: &Arming) -> bool
+        ensures { IsTrue result → MayStart arming.now self.now.told }
+    {
+        self.was_put(arming.wait.as_str()) || self.some_passed(&arming.order.pod, &arming.wait)
+    }
+}
+
+// Pushes where there is room.
+pub(crate) fn push_within<T: Drop>(items: &mut Vec<T>, item: T)
+    requires { vec_len items.old < vec_capacity items.old }
+    ensures { items.new.items ≡ items.old.items ++ item ∷ [] }
+{
+    let _ = items.push(item);
+}
