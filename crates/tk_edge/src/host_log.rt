@@ -231,6 +231,7 @@ impl HostLog {
         requires known { child < self.old.count }
         ensures told { self.new.told ≡ Started child order ∷ self.old.told }
         ensures killed { self.new.killed ≡ self.old.killed }
+        ensures count { self.new.count ≡ self.old.count }
         ensures watches { self.new.watches ≡ self.old.watches }
     {
         self.children[child as usize].started = true;
@@ -243,6 +244,7 @@ impl HostLog {
         requires known { child < self.old.count }
         ensures told { self.new.told ≡ Exited child exit ∷ self.old.told }
         ensures killed { self.new.killed ≡ self.old.killed }
+        ensures count { self.new.count ≡ self.old.count }
         ensures watches { self.new.watches ≡ self.old.watches }
     {
         self.children[child as usize].exit = Some(exit);
@@ -255,6 +257,7 @@ impl HostLog {
         requires known { child < self.old.count }
         ensures told { self.new.told ≡ Refused child ∷ self.old.told }
         ensures killed { self.new.killed ≡ self.old.killed }
+        ensures count { self.new.count ≡ self.old.count }
         ensures watches { self.new.watches ≡ self.old.watches }
     {
         self.children[child as usize].refused = true;
