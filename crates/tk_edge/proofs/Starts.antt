@@ -74,6 +74,7 @@ may_start_iff a h put some is_put has_some = (starts put some is_put has_some, f
     starts true some is_put has_some may = inl is_put
     starts false true is_put has_some may = inr (some_has a.order.pod a.wait h h has_some)
     starts false false is_put has_some may = cc
+
     found : (put some : Bool) → was_put a.wait h ≡ put → some_passed a.order.pod a.wait h h ≡ some → MayStart a h → IsTrue (put || some)
     found true some is_put has_some may = refl
     found false true is_put has_some may = refl
@@ -141,8 +142,8 @@ tail_is path post rest end same is =
     let front : take (length post) path ≡ post = (bytes_eq-Decides (take (length post) path) post).0 same in
     let whole : path ≡ post ++ rest = sym (take-append-drop (length post) path) ∙ (ap (λ (f : List ℕ). f ++ drop (length post) path) front ∙ ap (λ (r : List ℕ). post ++ r) (sym is)) in
     both_ways (bytes_eq rest end) (bytes_eq path (post ++ end))
-      (λ hit. (bytes_eq-Decides path (post ++ end)).1 (whole ∙ ap (λ (r : List ℕ). post ++ r) ((bytes_eq-Decides rest end).0 hit)))
-      (λ hit. (bytes_eq-Decides rest end).1 (append_cancel_left post rest end (sym whole ∙ (bytes_eq-Decides path (post ++ end)).0 hit)))
+    (λ hit. (bytes_eq-Decides path (post ++ end)).1 (whole ∙ ap (λ (r : List ℕ). post ++ r) ((bytes_eq-Decides rest end).0 hit)))
+    (λ hit. (bytes_eq-Decides rest end).1 (append_cancel_left post rest end (sym whole ∙ (bytes_eq-Decides path (post ++ end)).0 hit)))
 
 pub ends_so : (path post rest found end : List ℕ) → found ≡ end → bytes_eq (take (length post) path) post ≡ true → rest ≡ drop (length post) path → bytes_eq rest found ≡ bytes_eq path (post ++ end)
 ends_so path post rest found end is same rest_is = subst (λ (e : List ℕ). bytes_eq rest e ≡ bytes_eq path (post ++ end)) (sym is) (tail_is path post rest end same rest_is)

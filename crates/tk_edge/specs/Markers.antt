@@ -4,8 +4,8 @@ use Rattle.tk_edge.specs.declared.event.Arming.{Arming}
 use Rattle.tk_edge.specs.declared.event.Event.{Event}
 use Rattle.tk_edge.specs.declared.order.Watch.{Watch}
 use Rattle.tk_edge.specs.declared.order.Watch.TheVariants as watches
-use Rattle.tk_edge.specs.Files.{Files, WhereTold, IsWatchFile, broken}
-use Rattle.tk_edge.specs.History.{Has, MayStart, StillWaits, arming_of}
+use Rattle.tk_edge.specs.Files.{Files, WhereTold, IsOwnFile, IsWatchFile, broken}
+use Rattle.tk_edge.specs.History.{Has, MayStart, StillWaits, arming_of, exit_of, order_of}
 
 -- the file stands
 abbrev pub Stands : List ℕ → Files → Type 0
@@ -14,6 +14,10 @@ Stands path files = Has (files path) (λ _. Unit {0})
 -- a file that a turn of the armed child may change
 abbrev pub IsFileOf : ℕ → List Event → List ℕ → Type 0
 IsFileOf child told path = Has (arming_of child told) (λ arming. IsWatchFile arming path)
+
+-- a file that a poll of a child may change: one of its order's, while it wasn't found ended
+abbrev pub IsPolledFile : ℕ → List Event → List ℕ → Type 0
+IsPolledFile child told path = (exit_of child told ≡ None) × Has (order_of child told) (λ order. IsOwnFile order.pod path)
 
 -- An entry that waits answers as the files say: it is refused where its wait file stands with `.err`, and starts where
 -- its wait file stands; one that the history doesn't name counts as not there.

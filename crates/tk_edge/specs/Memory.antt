@@ -6,7 +6,7 @@ use Rattle.tk_edge.specs.declared.event.Event.TheVariants as events
 use Rattle.tk_edge.specs.declared.order.Watch.{Watch}
 use Rattle.tk_edge.specs.declared.order.Watch.TheVariants as watches
 use Rattle.tk_pod.specs.Exits.{passes}
-use Rattle.tk_edge.specs.Files.{broken, is_under}
+use Rattle.tk_edge.specs.Files.{Files, broken, is_under}
 use Rattle.tk_edge.specs.History.{names, arming_of, exit_of}
 
 -- the file that an entry leaves with its exit, or where it was refused
@@ -14,6 +14,7 @@ abbrev pub post_of : Option ℕ → Arming → List ℕ
 post_of (Some exit) arming = if passes arming.keep_going exit then arming.post else broken arming.post
 post_of None arming = broken arming.post
 
+-- the entry leaves it at this path
 abbrev pub leaves : List ℕ → Option ℕ → Option Arming → Bool
 leaves path exit (Some arming) = bytes_eq path (post_of exit arming)
 leaves path exit None = false
@@ -26,6 +27,10 @@ file_of path (events.Cleared folder true ∷ older) = if is_under folder path th
 file_of path (events.Exited child exit ∷ older) = if leaves path (Some exit) (arming_of child older) then Some [] else file_of path older
 file_of path (events.Refused child ∷ older) = if leaves path None (arming_of child older) then Some [] else file_of path older
 file_of path (_ ∷ older) = file_of path older
+
+-- all files
+abbrev pub files_of : List Event → Files
+files_of told path = file_of path told
 
 -- some event names the child
 abbrev pub is_named : ℕ → List Event → Bool
@@ -47,6 +52,7 @@ abbrev pub has_passed_with : List ℕ → List ℕ → Option Arming → Option 
 has_passed_with pod path (Some arming) (Some exit) = bytes_eq arming.order.pod pod && bytes_eq arming.post path && passes arming.keep_going exit
 has_passed_with pod path arming exit = false
 
+-- the child is such an entry
 abbrev pub child_passed : List ℕ → List ℕ → List Event → ℕ → Bool
 child_passed pod path history child = has_passed_with pod path (arming_of child history) (exit_of child history)
 

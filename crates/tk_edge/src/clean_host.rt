@@ -9,7 +9,7 @@ ghost use Rattle.tk_edge.specs.declared.event.Event.{Event as AnEvent};
 ghost use Rattle.tk_pod.specs.Exits.{passes as has_passed};
 ghost use Rattle.tk_edge.specs.Files.{is_under, MayChange};
 ghost use Rattle.tk_edge.specs.Causes.{Counts, CountsWatch};
-ghost use Rattle.tk_edge.specs.Memory.{file_of, is_named, ended_watch, leaves, child_passed, some_passed, HasEnded};
+ghost use Rattle.tk_edge.specs.Memory.{file_of, files_of, is_named, ended_watch, leaves, child_passed, some_passed, HasEnded};
 ghost use Rattle.tk_edge.specs.Markers.{Stands, FollowsMarkers, IsFileOf};
 
 use crate::event::{Arming, Event};
@@ -52,7 +52,7 @@ impl CleanHost {
     }
 }
 
-// The exit of the child once this event came, too.
+/// The exit of the child once this event came, too.
 fn exit_after(event: &Event, child: u64, found: Option<u8>) -> Option<u8>
     ensures { (older : List AnEvent) → exit_of child older ≡ found → exit_of child (event.now ∷ older) ≡ result }
 {
@@ -62,6 +62,7 @@ fn exit_after(event: &Event, child: u64, found: Option<u8>) -> Option<u8>
     }
 }
 
+/// The exit of the child.
 fn exit_in(events: &[Event], child: u64) -> Option<u8>
     ensures { result ≡ exit_of child (reverse events.now) }
 {
@@ -72,6 +73,7 @@ fn exit_in(events: &[Event], child: u64) -> Option<u8>
     found
 }
 
+/// Whether the child was started once this event came, too.
 fn started_after(event: &Event, child: u64, found: bool) -> bool
     ensures { (older : List AnEvent) → is_some (order_of child older) ≡ found → is_some (order_of child (event.now ∷ older)) ≡ result }
 {
@@ -81,6 +83,7 @@ fn started_after(event: &Event, child: u64, found: bool) -> bool
     }
 }
 
+/// Whether the child was started.
 fn started_in(events: &[Event], child: u64) -> bool
     ensures { result ≡ is_some (order_of child (reverse events.now)) }
 {
@@ -96,7 +99,8 @@ fn leaves(path: &str, exit: Option<u8>, arming: Option<&Arming>) -> bool
     ensures { result ≡ leaves path.now exit (option_map (λ a. a.now) arming.entry) }
 {
     match (arming, exit) {
-        (Some(arming), Some(exit)) if passes(arming.keep_going, exit) => path == arming.post.as_str(),
+        (Some(arming), Some(exit)) if passes(arming.keep_going, exit) => path
+            == arming.post.as_str(),
         (Some(arming), _) => is_broken(path.as_bytes(), arming.post.as_str().as_bytes()),
         (None, _) => false,
     }
@@ -121,12 +125,14 @@ fn file_after<'a>(
             folder,
             answered: true,
         } if is_below(folder, path) => None,
-        Event::Exited { child, exit } if leaves(path, Some(*exit), arming_in(older, *child)) => Some(&[]),
+        Event::Exited { child, exit } if leaves(path, Some(*exit), arming_in(older, *child)) =>
+            Some(&[]),
         Event::Refused { child } if leaves(path, None, arming_in(older, *child)) => Some(&[]),
         _ => found,
     }
 }
 
+/// Whether the path is below the folder.
 fn is_below(folder: &Text, path: &str) -> bool
     ensures { result ≡ is_under folder.now path.now }
 {
@@ -149,6 +155,7 @@ fn file_in<'a>(events: &'a [Event], path: &str) -> Option<&'a [u8]>
     found
 }
 
+/// Whether an event names the child, this one too.
 fn named_after(event: &Event, child: u64, found: bool) -> bool
     ensures { (older : List AnEvent) → is_named child older ≡ found → is_named child (event.now ∷ older) ≡ result }
 {
@@ -161,6 +168,7 @@ fn named_after(event: &Event, child: u64, found: bool) -> bool
     }
 }
 
+/// Whether an event names the child.
 fn named_in(events: &[Event], child: u64) -> bool
     ensures { result ≡ is_named child (reverse events.now) }
 {
@@ -171,6 +179,7 @@ fn named_in(events: &[Event], child: u64) -> bool
     found
 }
 
+/// Whether the child was refused once this event came, too.
 fn refused_after(event: &Event, child: u64, found: bool) -> bool
     ensures { (older : List AnEvent) → is_refused child older ≡ found → is_refused child (event.now ∷ older) ≡ result }
 {
@@ -180,6 +189,7 @@ fn refused_after(event: &Event, child: u64, found: bool) -> bool
     }
 }
 
+/// Whether the child was refused.
 fn refused_in(events: &[Event], child: u64) -> bool
     ensures { is_refused child (reverse events.now) ≡ result }
 {
@@ -190,6 +200,7 @@ fn refused_in(events: &[Event], child: u64) -> bool
     found
 }
 
+/// Whether the path was put once this event came, too.
 fn put_after(event: &Event, path: &str, found: bool) -> bool
     ensures { (older : List AnEvent) → was_put path.now older ≡ found → was_put path.now (event.now ∷ older) ≡ result }
 {
@@ -207,6 +218,7 @@ fn put_after(event: &Event, path: &str, found: bool) -> bool
     }
 }
 
+/// Whether the path was put.
 pub(crate) fn put_in(events: &[Event], path: &str) -> bool
     ensures { was_put path.now (reverse events.now) ≡ result }
 {
@@ -217,6 +229,7 @@ pub(crate) fn put_in(events: &[Event], path: &str) -> bool
     found
 }
 
+/// What the child was armed with once this event came, too.
 fn arming_after<'a>(event: &'a Event, child: u64, found: Option<&'a Arming>) -> Option<&'a Arming>
     ensures { (older : List AnEvent) → arming_of child older ≡ option_map (λ a. a.now) found.entry → arming_of child (event.now ∷ older) ≡ option_map (λ a. a.now) result }
 {
@@ -229,6 +242,7 @@ fn arming_after<'a>(event: &'a Event, child: u64, found: Option<&'a Arming>) -> 
     }
 }
 
+/// What the child was armed with.
 fn arming_in<'a>(events: &'a [Event], child: u64) -> Option<&'a Arming>
     ensures { arming_of child (reverse events.now) ≡ option_map (λ a. a.now) result }
 {
@@ -239,6 +253,7 @@ fn arming_in<'a>(events: &'a [Event], child: u64) -> Option<&'a Arming>
     found
 }
 
+/// Whether a step passes with this exit.
 pub(crate) fn passes(keep_going: bool, exit: u8) -> bool
     ensures { result ≡ has_passed keep_going exit }
 {
@@ -290,20 +305,20 @@ fn may_start(events: &[Event], arming: &Arming) -> bool
 /// Whether a file stands at this path.
 #[tactic(auto, using(crate::proofs::Starts::stands_iff))]
 fn stands(events: &[Event], path: &str) -> bool
-    ensures { IsTrue result ↔ Stands path.now (λ p. file_of p (reverse events.now)) }
+    ensures { IsTrue result ↔ Stands path.now (files_of (reverse events.now)) }
 {
     file_in(events, path).is_some()
 }
 
 /// Whether the entry's wait file stands, and it may start.
 fn is_ready(events: &[Event], arming: &Arming) -> bool
-    ensures { IsTrue result ↔ (Stands arming.now.wait (λ p. file_of p (reverse events.now)) × MayStart arming.now (reverse events.now)) }
+    ensures { IsTrue result ↔ (Stands arming.now.wait (files_of (reverse events.now)) × MayStart arming.now (reverse events.now)) }
 {
     stands(events, arming.wait.as_str()) && may_start(events, arming)
 }
 
 impl CleanHost {
-    // Tells one more event.
+    /// Tells one more event.
     fn remember(&mut self, event: Event) -> Result<(), Miss>
         ensures told { OnOk result (reverse self.new.events.items ≡ event ∷ reverse self.old.events.items) }
         ensures same { OnErr result (self.new.events.items ≡ self.old.events.items) }
@@ -315,7 +330,7 @@ impl CleanHost {
         Ok(())
     }
 
-    // A number that no event names; there are 64.
+    /// A number that no event names; there are 64.
     #[tactic(auto, using(crate::proofs::Remembers::unnamed_new))]
     fn fresh(&mut self) -> Result<u64, Miss>
         ensures number { IfOk result (λ child. IsNew child (reverse self.old.events.items)) }
@@ -333,7 +348,7 @@ impl CleanHost {
         Ok(child)
     }
 
-    // The child ends, and that is told.
+    /// The child ends, and that is told.
     #[tactic(auto, using(crate::proofs::Remembers::first_exit))]
     fn end(&mut self, child: u64) -> Result<u8, Miss>
         requires started { is_some (order_of child (reverse self.old.events.items)) ≡ true }
@@ -350,6 +365,7 @@ impl CleanHost {
     }
 }
 
+/// The answer of a watch whose child has this exit.
 pub(crate) fn ended(keep_going: bool, exit: u8) -> Watch
     ensures exact { result ≡ ended_watch keep_going exit }
     ensures ends { HasEnded result }
@@ -362,15 +378,15 @@ pub(crate) fn ended(keep_going: bool, exit: u8) -> Watch
 }
 
 impl CleanHost {
-    // One turn of the armed entry.
+    /// One turn of the armed entry, not counted.
     #[tactic(auto, using(crate::proofs::Remembers::ended_told, crate::proofs::Starts::waits_fit, crate::proofs::Starts::starts_fit, crate::proofs::Starts::refused_fit))]
     fn watch_once(&mut self, child: u64) -> Result<Watch, Miss>
         requires { Has (arming_of child (reverse self.old.events.items)) (λ _. Unit {0}) }
         ensures told { TellsWatch child (reverse self.old.events.items) (reverse self.new.events.items) result }
         ensures alive { IfOk result (λ watch. watch ≡ shown.Started → slice_index_or self.old.killed child true ≡ false) }
-        ensures markers { IfOk result (FollowsMarkers child (slice_index_or self.old.killed child true) (reverse self.old.events.items) (Some (λ path. file_of path (reverse self.old.events.items)))) }
+        ensures markers { IfOk result (FollowsMarkers child (slice_index_or self.old.killed child true) (reverse self.old.events.items) (Some (files_of (reverse self.old.events.items)))) }
         ensures ends { IfOk result (λ watch. is_some (order_of child (reverse self.old.events.items)) ≡ true → HasEnded watch) }
-        ensures others { MayChange (IsFileOf child (reverse self.old.events.items)) (Some (λ path. file_of path (reverse self.old.events.items))) (Some (λ path. file_of path (reverse self.new.events.items))) }
+        ensures others { MayChange (IsFileOf child (reverse self.old.events.items)) (Some (files_of (reverse self.old.events.items))) (Some (files_of (reverse self.new.events.items))) }
         ensures killed { self.new.killed ≡ self.old.killed }
         ensures watches { self.new.watches ≡ self.old.watches }
         ensures memory { OnErr result (result ≡ Err Memory) }
@@ -416,7 +432,7 @@ impl Host for CleanHost {
 
     ghost watches = { λ host child. slice_index_or host.watches child 0 };
 
-    ghost files = { λ host. Some (λ path. file_of path (reverse host.events.items)) };
+    ghost files = { λ host. Some (files_of (reverse host.events.items)) };
 
     ghost faults = { λ host. 0 };
 
@@ -515,6 +531,7 @@ impl Host for CleanHost {
     }
 }
 
+/// A copy of bytes, where there are some.
 pub(crate) fn copy_bytes(alloc: Global, bytes: &Option<Bytes>) -> Result<Option<Bytes>, Miss>
     ensures same { IfOk result (λ copied. copied ≡ bytes.now) }
     ensures memory { OnErr result (result ≡ Err Memory) }
@@ -525,7 +542,7 @@ pub(crate) fn copy_bytes(alloc: Global, bytes: &Option<Bytes>) -> Result<Option<
     }
 }
 
-// At most so many bytes of the file.
+/// At most so many bytes of the file.
 fn first_bytes(alloc: Global, file: Option<&[u8]>, limit: u64) -> Result<Option<Bytes>, Miss>
     ensures first { IfOk result (λ bytes. bytes ≡ option_map (λ b. take limit b.now) file.entry) }
     ensures memory { OnErr result (result ≡ Err Memory) }

@@ -15,7 +15,7 @@ use crate::host::Host;
 use crate::host_log::{HostLog, push_within};
 use crate::miss::{Failed, Miss};
 use crate::order::{Order, Poll, Watch};
-use crate::texts::{bytes_of, joined};
+use crate::texts::{broken, bytes_of};
 use std::alloc::{AllocError, Global};
 use std::io::{ErrorKind, Read};
 use std::path::Path;
@@ -155,6 +155,13 @@ fn write_file<R: Files>(rt: &R, path: &str, bytes: &[u8]) -> Result<(), Failed> 
     fs::write(rt, path, bytes).map_err(|_| Failed)
 }
 
+// The folder of results in a folder.
+fn results_of(alloc: Global, folder: &str) -> Result<Text, AllocError> {
+    let mut path = String::from_str(alloc, folder)?;
+    path.push_str("/results")?;
+    Ok(Text::from_string(path))
+}
+
 // Removes the folder with all in it, and makes it and its folder of results anew.
 fn clear_folder<R: Files>(
     rt: &R,
@@ -274,8 +281,8 @@ enum Wait {
 }
 
 fn look_for_wait<R: Files>(rt: &R, alloc: Global, arming: &Arming) -> Result<Wait, Miss> {
-    let broken = joined(alloc, arming.wait.as_str(), ".err")?;
-    if is_plain(rt, broken.as_str())? {
+    let failed = broken(alloc, arming.wait.as_str())?;
+    if is_plain(rt, failed.as_str())? {
         return Ok(Wait::Broke);
     }
     if is_plain(rt, arming.wait.as_str())? {
@@ -327,7 +334,7 @@ impl<'a, R: Processes + Files> RealHost<'a, R> {
         let Some(arming) = self.log.arming(child) else {
             return self.fail();
         };
-        let post = joined(self.alloc, arming.post.as_str(), ".err")?;
+        let post = broken(self.alloc, arming.post.as_str())?;
         match write_file(self.rt, post.as_str(), &[]) {
             Ok(()) => {
                 self.log.refused(child);
@@ -441,7 +448,7 @@ fn post_of(alloc: Global, arming: &Arming, exit: u8) -> Result<Text, AllocError>
     if passes(arming.keep_going, exit) {
         arming.post.copy(alloc)
     } else {
-        joined(alloc, arming.post.as_str(), ".err")
+        broken(alloc, arming.post.as_str())
     }
 }
 
@@ -458,7 +465,7 @@ impl<'a, R: Processes + Files> Host for RealHost<'a, R> {
 
     fn clear(&mut self, folder: &str) -> Result<(), Miss> {
         let told = Text::from_str(self.alloc, folder)?;
-        let results = joined(self.alloc, folder, "/results")?;
+        let results = results_of(self.alloc, folder)?;
         self.log.make_room()?;
         match clear_folder(self.rt, self.alloc, folder, results.as_str()) {
             Ok(()) => {
