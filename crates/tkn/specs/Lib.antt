@@ -1,4 +1,5 @@
 pub mod Command
 pub mod Due
 pub mod Plain
+pub mod Unread
 pub mod Written

@@ -1,5 +1,5 @@
-ghost use Rattle.std.specs.Prelude.{◌≡◌, ◌≤◌, ◌<◌, IfOk, IfSome, IsErrOf, OnErr, OnOk, length, true};
-ghost use Rattle.tk_edge.specs.Faults.{Rose};
+ghost use Rattle.std.specs.Prelude.{◌≡◌, ◌≤◌, ◌<◌, IfOk, IfSome, IsErrOf, OnOk, length, true};
+ghost use Rattle.tkn.specs.Unread.{CountsReads};
 ghost use Rattle.tkn.specs.declared.input.Unread.TheVariants.{Memory};
 
 use std::alloc::{AllocError, Global};
@@ -33,8 +33,7 @@ pub fn read_all<R: Source>(alloc: Global, input: &mut R) -> Result<Vec<u8>, Unre
     ensures ended { OnOk result (R.ended input.new ≡ true) }
     ensures bytes { IfOk result (λ bytes. IfSome (R.left input.old) (λ left. bytes.items ≡ left)) }
     ensures too_long { IsErrOf result Unread.TooLong → IfSome (R.left input.old) (λ left. 8388608 < length left) }
-    ensures failed { IsErrOf result Unread.Failed → Rose (R.faults input.old) (R.faults input.new) }
-    ensures never_falls { R.faults input.old ≤ R.faults input.new }
+    ensures faults { CountsReads (R.faults input.old) (R.faults input.new) result }
 {
     let mut piece = [0u8; PIECE];
     let mut bytes = Vec::new(alloc);

@@ -1,6 +1,6 @@
-ghost use Rattle.std.specs.Prelude.{◌≡◌, ◌≤◌, ◌<◌, ◌^◌, IfOk, IsErrOf, OnErr, OnOk, length};
+ghost use Rattle.std.specs.Prelude.{◌<◌, ◌^◌, OnErr, OnOk, length};
 ghost use Rattle.std.specs.Io.KnownBytes.{Appends};
-ghost use Rattle.tk_edge.specs.Faults.{Rose};
+ghost use Rattle.tk_edge.specs.Causes.{Counts};
 ghost use Rattle.tkn.specs.Written.{AppendsFront};
 
 use tk_edge::{Miss, Sink};
@@ -9,8 +9,7 @@ use tk_edge::{Miss, Sink};
 pub fn write_all<W: Sink>(sink: &mut W, text: &[u8]) -> Result<(), Miss>
     ensures written { OnOk result (Appends (W.written sink.old) (W.written sink.new) text.now) }
     ensures front { OnErr result (AppendsFront (W.written sink.old) (W.written sink.new) text.now) }
-    ensures failed { IsErrOf result Miss.Failed → Rose (W.faults sink.old) (W.faults sink.new) }
-    ensures never_falls { W.faults sink.old ≤ W.faults sink.new }
+    ensures faults { Counts (W.faults sink.old) (W.faults sink.new) result }
 {
     let mut start = 0;
     while start < text.len() {

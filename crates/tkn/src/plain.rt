@@ -1,16 +1,15 @@
-ghost use Rattle.std.specs.Prelude.{◌≡◌, ◌≤◌, ◌<◌, ◌↔◌, true, None, IfOk, IsErrOf, OnOk};
+ghost use Rattle.std.specs.Prelude.{◌≡◌, ◌==◌, ◌<◌, ◌↔◌, if◌then◌else◌, true, None, IfOk};
 ghost use Rattle.std.specs.Option.{ForSome};
-ghost use Rattle.tk_edge.specs.Faults.{Rose};
+ghost use Rattle.tk_edge.specs.Causes.{raised, Counts};
 ghost use Rattle.tkn.specs.Plain.{is_answer, IsReadDue, Prints, PrintsFront, PrintsReadFront};
 ghost use Rattle.tkn.specs.Command.{command_of as command_of_words};
-ghost use Rattle.tkn.specs.declared.plain.Halt.TheVariants.{Memory};
 
 use crate::answer::{answer, too_long_answer};
 use crate::command::{Command, command_of};
 use crate::due::Due;
 use crate::input::{Unread, read_all};
 use crate::output::write_all;
-use std::alloc::{AllocError, Global};
+use std::alloc::Global;
 use tk_edge::{Miss, Sink, Source};
 use tk_types::Text;
 
@@ -20,32 +19,17 @@ pub struct Ended {
     pub status: u8,
 }
 
-/// Why there is nothing due: the input failed, or there is no memory.
-#[derive(Clone, Copy, Debug, PartialEq, Eq)]
-enum Halt {
-    Failed,
-    Memory,
-}
-
-impl From<AllocError> for Halt {
-    ghost from_gives = { λ _ e. e ≡ Memory };
-
-    fn from(_e: AllocError) -> Halt {
-        Halt::Memory
-    }
-}
-
-/// What is due for an input, which is read to its end.
-fn due<R: Source>(alloc: Global, command: Command, input: &mut R) -> Result<Due, Halt>
+/// What is due for an input, which is read to its end. It may fail, or there is no memory.
+fn due<R: Source>(alloc: Global, command: Command, input: &mut R) -> Result<Due, Miss>
     ensures due { IfOk result (IsReadDue command (R.left input.old) (R.ended input.new)) }
     ensures answer { IfOk result (λ due. is_answer due.status ≡ true) }
-    ensures failed { IsErrOf result Halt.Failed → Rose (R.faults input.old) (R.faults input.new) }
+    ensures faults { Counts (R.faults input.old) (R.faults input.new) result }
 {
     match read_all(alloc, input) {
         Ok(bytes) => Ok(answer(alloc, command, bytes.as_slice())?),
         Err(Unread::TooLong) => Ok(too_long_answer(alloc)?),
-        Err(Unread::Failed) => Err(Halt::Failed),
-        Err(Unread::Memory) => Err(Halt::Memory),
+        Err(Unread::Failed) => Err(Miss::Failed),
+        Err(Unread::Memory) => Err(Miss::Memory),
     }
 }
 
@@ -59,16 +43,16 @@ fn carry_out<R: Source, W: Sink>(
     ensures known { result.status < 8 }
     ensures done { result.status ≡ 2 → ⊥ }
     ensures answer { is_answer result.status ≡ true → Prints command (R.left input.old) (R.ended input.new) (W.written sink.old) (W.written sink.new) result.status }
-    ensures input_failed { result.status ≡ 4 → Rose (R.faults input.old) (R.faults input.new) }
+    ensures input_faults { R.faults input.new ≡ (if result.status == 4 then raised (R.faults input.old) else R.faults input.old) }
     ensures input_failed_writes_nothing { result.status ≡ 4 → sink.new ≡ sink.old }
-    ensures sink_failed { result.status ≡ 5 → Rose (W.faults sink.old) (W.faults sink.new) }
+    ensures sink_faults { W.faults sink.new ≡ (if result.status == 5 then raised (W.faults sink.old) else W.faults sink.old) }
     ensures sink_failed_front { result.status ≡ 5 → PrintsReadFront command (R.left input.old) (R.ended input.new) (W.written sink.old) (W.written sink.new) }
     ensures memory_front { result.status ≡ 6 → PrintsFront command (R.left input.old) (W.written sink.old) (W.written sink.new) }
 {
     let due = match due(alloc, command, input) {
         Ok(due) => due,
-        Err(Halt::Failed) => return Ended { status: 4 },
-        Err(Halt::Memory) => return Ended { status: 6 },
+        Err(Miss::Failed) => return Ended { status: 4 },
+        Err(Miss::Memory) => return Ended { status: 6 },
     };
     match write_all(sink, due.text.as_str().as_bytes()) {
         Ok(()) => Ended { status: due.status },
@@ -95,9 +79,9 @@ pub fn plain<R: Source, W: Sink>(
     ensures words_read_nothing { result.status ≡ 2 → input.new ≡ input.old }
     ensures words_write_nothing { result.status ≡ 2 → sink.new ≡ sink.old }
     ensures answer { is_answer result.status ≡ true → ForSome (command_of_words words.now) (λ command. Prints command (R.left input.old) (R.ended input.new) (W.written sink.old) (W.written sink.new) result.status) }
-    ensures input_failed { result.status ≡ 4 → Rose (R.faults input.old) (R.faults input.new) }
+    ensures input_faults { R.faults input.new ≡ (if result.status == 4 then raised (R.faults input.old) else R.faults input.old) }
     ensures input_failed_writes_nothing { result.status ≡ 4 → sink.new ≡ sink.old }
-    ensures sink_failed { result.status ≡ 5 → Rose (W.faults sink.old) (W.faults sink.new) }
+    ensures sink_faults { W.faults sink.new ≡ (if result.status == 5 then raised (W.faults sink.old) else W.faults sink.old) }
     ensures sink_failed_front { result.status ≡ 5 → ForSome (command_of_words words.now) (λ command. PrintsReadFront command (R.left input.old) (R.ended input.new) (W.written sink.old) (W.written sink.new)) }
     ensures memory_front { result.status ≡ 6 → ForSome (command_of_words words.now) (λ command. PrintsFront command (R.left input.old) (W.written sink.old) (W.written sink.new)) }
 {

@@ -1,4 +1,4 @@
-use Rattle.std.proofs.Common.{le_trans}
+use Rattle.tkn.proofs.Counts.{none_failed}
 use Rattle.tkn.proofs.Fronts.{front_grows, start_within}
 use Rattle.tkn.proofs.output.write_all.Goals as goal
 
@@ -6,5 +6,5 @@ pub loop-start-preserved : goal.loop-start-preserved
 loop-start-preserved g c = (
   start_within c.args.text.now c.loop-start.start c.in_ok-count.count c.loop-start.invariant.0 c.in_ok-count.ensures.count,
   front_grows (g.W.Sink.written c.args.sink.now) (g.W.Sink.written c.loop-start.sink) (g.W.Sink.written c.write.new.self) c.args.text.now c.loop-start.start c.in_ok-count.count c.loop-start.invariant.1 c.in_ok-count.ensures.bytes,
-  le_trans c.loop-start.invariant.2 c.in_ok-count.ensures.never_falls,
+  none_failed _ c.in_ok-count.count _ _ _ c.if-count-eq0.false c.loop-start.invariant.2 c.in_ok-count.ensures.faults,
 )
