@@ -2,3 +2,4 @@ pub mod ClashLaw
 pub mod Cut
 pub mod Earlier
 pub mod Examples
+pub mod PodNames

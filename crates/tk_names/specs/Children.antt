@@ -1,7 +1,8 @@
 -- The names of children, of pods and of generated objects.
-use Rattle.std.specs.Prelude.{ℕ, zero, suc, ◌/◌, ◌%◌, ◌^◌, Bool, ◌&&◌, nat_le, nat_lt, if◌then◌else◌, List, [], ◌∷◌, ◌++◌, map, length, take, slice_index, Option, Some, None, codes, decimal}
+use Rattle.std.specs.Prelude.{ℕ, zero, suc, ◌+◌, ◌/◌, ◌%◌, ◌^◌, Bool, ◌&&◌, nat_le, nat_lt, if◌then◌else◌, List, [], ◌∷◌, ◌++◌, map, length, take, slice_index, Option, Some, None, codes, decimal}
 use Rattle.std.specs.List.{range_with_len}
 use Rattle.std.specs.Char.{digit_char}
+use Rattle.tk_types.specs.Limits.{most_retries}
 use Rattle.md5.specs.Md5.{md5}
 use Rattle.hex.specs.Hex.{encode_lower}
 
@@ -31,6 +32,10 @@ child_name run task index = shortened (whole_child_name run task index)
 abbrev pub child_names : List ℕ → List ℕ → Option ℕ → List (List ℕ)
 child_names run task None = child_name run task None ∷ []
 child_names run task (Some count) = map (λ i. child_name run task (Some i)) (range_with_len 0 count)
+
+-- how many attempts a TaskRun may have, counted from 1
+abbrev pub most_attempts : ℕ
+most_attempts = most_retries + 1
 
 -- the name of an attempt's pod, which is never shortened
 abbrev pub pod_name : List ℕ → ℕ → List ℕ

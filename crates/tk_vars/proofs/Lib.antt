@@ -15,3 +15,4 @@ pub mod TableFacts
 pub mod TailFacts
 pub mod TaskFacts
 pub mod TextFacts
+pub mod WalkFacts

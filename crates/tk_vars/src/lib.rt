@@ -18,6 +18,7 @@ mod reference;
 mod scanner;
 mod splitting;
 mod tasks;
+mod walk;
 mod word;
 
 pub use error::ScanError;
@@ -28,4 +29,5 @@ pub use pieces::Pieces;
 pub use reference::Reference;
 pub use scanner::{is_plain, scan};
 pub use tasks::names_no_task;
+pub use walk::{ReferenceTest, any_in_pieces, any_reference, first_reference, known_pieces};
 pub use word::Word;

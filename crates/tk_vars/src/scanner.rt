@@ -1,5 +1,6 @@
-ghost use Rattle.std.specs.Prelude.{◌≡◌, ◌==◌, ◌&&◌, ◌||◌, not, false, [], ◌∷◌, ◌++◌, length, OnOk, IfOk, IfErr, IsOkUnless, IsTrue, None, MatchOption, flat_map};
-ghost use Rattle.std.specs.List.{list_all};
+ghost use Rattle.std.specs.Prelude.{◌≡◌, ◌==◌, ◌&&◌, ◌||◌, not, false, Bool, [], ◌∷◌, ◌++◌, length, OnOk, IfOk, IfErr, IsOkUnless, IsTrue, None, MatchOption, flat_map};
+ghost use Rattle.std.specs.List.{list_all, list_any};
+ghost use Rattle.tk_vars.specs.declared.reference.Reference.{Reference as AReference};
 ghost use Rattle.tk_vars.specs.Offset.{bad_offset};
 ghost use Rattle.tk_vars.specs.Target.{references_of};
 ghost use Rattle.tk_vars.specs.Reading.{Reads, HasReading, pieces_of, spelling_of, ends_with_star};
@@ -99,6 +100,7 @@ pub fn is_plain(text: &str) -> bool
     ensures exact { result ≡ list_all (λ b. not (b == 36)) text.now }
     ensures reading { IsTrue result → bad_offset text.now ≡ None }
     ensures references { IsTrue result → references_of text.now ≡ [] }
+    ensures none { IsTrue result → (test : AReference → Bool) → list_any test (references_of text.now) ≡ false }
 {
     has_no_dollar(text)
 }

@@ -1,4 +1,5 @@
 use Rattle.std.proofs.Common.{◌≡◌, ℕ, List, [], ◌∷◌, true, refl, sym, ap, ◌∙◌, filter_map}
+use Rattle.std.specs.List.{list_any}
 use Rattle.tk_vars.specs.Steps.{plain_pieces}
 use Rattle.tk_vars.specs.Target.{referenced}
 use Rattle.tk_vars.proofs.OffsetFacts.{bad_offset-none}
@@ -18,3 +19,6 @@ returns-clause-reading c = λ yes. bad_offset-none c.args.text.now (all_scanned 
 
 pub returns-clause-references : goal.returns-clause-references
 returns-clause-references c = λ yes. ap (filter_map referenced) (sym (all_scanned c.args.text.now (sym c.has_no_dollar.ensures ∙ yes)).only) ∙ no_reference c.args.text.now
+
+pub returns-clause-none : goal.returns-clause-none
+returns-clause-none c = λ yes test. ap (list_any test) (returns-clause-references c yes)
