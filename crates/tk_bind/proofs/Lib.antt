@@ -1,3 +1,4 @@
+pub mod AlikeSteps
 pub mod AllOk
 pub mod BindingExamples
 pub mod CheckExamples

@@ -1,3 +1,4 @@
+pub mod Alike
 pub mod Bind
 pub mod Check
 pub mod Completing

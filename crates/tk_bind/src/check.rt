@@ -12,7 +12,7 @@ use crate::scope_names::ScopeNames;
 use std::alloc::{AllocError, Global};
 use tk_types::Text;
 use tk_vars::laws::one_bad_offset;
-use tk_vars::{Piece, Pieces, Reference, ScanError, scan};
+use tk_vars::{Pieces, Reference, ReferenceTest, ScanError, first_reference, is_plain, scan};
 
 /// The pieces of a text that has a reading.
 fn scanned(alloc: Global, text: &str) -> Result<Pieces<'_>, CheckError>
@@ -28,72 +28,41 @@ fn scanned(alloc: Global, text: &str) -> Result<Pieces<'_>, CheckError>
     }
 }
 
-/// The piece's reference, if it is to what isn't visible.
-fn unknown_in<'p, 't>(
-    alloc: Global,
-    names: &ScopeNames<'_>,
-    piece: &'p Piece<'t>,
-) -> Result<Option<&'p Reference<'t>>, AllocError>
-    ensures { IfOk result (λ found. option_copied found ≡ find (λ r. not (is_visible names.now r)) (filter_map referenced (piece.now ∷ []))) }
-{
-    let Piece::Ref(reference) = piece else {
-        return Ok(None);
-    };
-    if names.is_visible(alloc, reference)? {
-        return Ok(None);
-    }
-    Ok(Some(reference))
+/// Whether a reference is to what isn't visible.
+#[derive(Drop)]
+struct Unseen<'n, 's> {
+    names: &'n ScopeNames<'s>,
 }
 
-/// The first reference to what isn't visible.
-fn first_unknown<'p, 't>(
-    alloc: Global,
-    names: &ScopeNames<'_>,
-    pieces: &'p [Piece<'t>],
-) -> Result<Option<&'p Reference<'t>>, AllocError>
-    ensures { IfOk result (λ found. option_copied found ≡ find (λ r. not (is_visible names.now r)) (filter_map referenced pieces.now)) }
-{
-    for piece in pieces {
-        if let Some(reference) = unknown_in(alloc, names, piece)? {
-            return Ok(Some(reference));
-        }
+impl<'n, 's> ReferenceTest for Unseen<'n, 's> {
+    ghost is_met = { λ t r. not (is_visible t.names.now r) };
+
+    fn passes_over(&self, text: &str) -> bool {
+        is_plain(text)
     }
-    Ok(None)
+
+    fn meets(&self, alloc: Global, reference: &Reference<'_>) -> Result<bool, AllocError> {
+        Ok(!self.names.is_visible(alloc, reference)?)
+    }
 }
 
-/// The piece's reference, if it is used against its type.
-fn mistyped_in<'p, 't>(
-    alloc: Global,
-    names: &ScopeNames<'_>,
+/// Whether a reference is used against its type.
+#[derive(Drop)]
+struct Mistyped<'n, 's> {
+    names: &'n ScopeNames<'s>,
     whole: bool,
-    piece: &'p Piece<'t>,
-) -> Result<Option<&'p Reference<'t>>, AllocError>
-    ensures { IfOk result (λ found. option_copied found ≡ find (λ r. not (is_well_typed names.now whole r)) (filter_map referenced (piece.now ∷ []))) }
-{
-    let Piece::Ref(reference) = piece else {
-        return Ok(None);
-    };
-    if names.is_well_typed(alloc, whole, reference)? {
-        return Ok(None);
-    }
-    Ok(Some(reference))
 }
 
-/// The first reference that is used against its type.
-fn first_mistyped<'p, 't>(
-    alloc: Global,
-    names: &ScopeNames<'_>,
-    whole: bool,
-    pieces: &'p [Piece<'t>],
-) -> Result<Option<&'p Reference<'t>>, AllocError>
-    ensures { IfOk result (λ found. option_copied found ≡ find (λ r. not (is_well_typed names.now whole r)) (filter_map referenced pieces.now)) }
-{
-    for piece in pieces {
-        if let Some(reference) = mistyped_in(alloc, names, whole, piece)? {
-            return Ok(Some(reference));
-        }
+impl<'n, 's> ReferenceTest for Mistyped<'n, 's> {
+    ghost is_met = { λ t r. not (is_well_typed t.names.now t.whole r) };
+
+    fn passes_over(&self, text: &str) -> bool {
+        is_plain(text)
     }
-    Ok(None)
+
+    fn meets(&self, alloc: Global, reference: &Reference<'_>) -> Result<bool, AllocError> {
+        Ok(!self.names.is_well_typed(alloc, self.whole, reference)?)
+    }
 }
 
 /// The reference as it is written.
@@ -114,12 +83,20 @@ impl<'a> ScopeNames<'a> {
         ensures refused { IfErr result (IsCheckRefusal (text_fault self.now whole text.now)) }
     {
         let pieces = scanned(alloc, text)?;
-        if let Some(reference) = first_unknown(alloc, self, pieces.as_slice())? {
+        if let Some(reference) = first_reference(
+            alloc,
+            &Unseen { names: self },
+            pieces.as_slice(),
+        )? {
             return Err(CheckError::Unknown {
                 reference: spelled(alloc, reference)?,
             });
         }
-        if let Some(reference) = first_mistyped(alloc, self, whole, pieces.as_slice())? {
+        if let Some(reference) = first_reference(
+            alloc,
+            &Mistyped { names: self, whole },
+            pieces.as_slice(),
+        )? {
             return Err(CheckError::WrongType {
                 reference: spelled(alloc, reference)?,
             });

@@ -1,15 +1,13 @@
 ghost use Rattle.std.specs.Prelude.{◌≡◌, IfOk};
-ghost use Rattle.std.specs.List.{list_any};
 ghost use Rattle.tk_vars.specs.Reading.{HasReading};
 ghost use Rattle.tk_bind.specs.Found.{meant};
-ghost use Rattle.tk_bind.specs.Lacking.{piece_lacks, target_lacks, text_lacks};
+ghost use Rattle.tk_bind.specs.Lacking.{reference_lacks, target_lacks, text_lacks};
 
 use crate::key::key_part;
 use crate::lookup::Lookup;
-use crate::substitution::pieces_of;
 use crate::target::{Target, target_of};
 use std::alloc::{AllocError, Global};
-use tk_vars::Piece;
+use tk_vars::{Reference, ReferenceTest, any_reference, is_plain};
 
 impl<'i, 'p, 'r, 'w, 'o> Lookup<'i, 'p, 'r, 'w, 'o> {
     /// Whether this is a result that isn't available.
@@ -24,37 +22,33 @@ impl<'i, 'p, 'r, 'w, 'o> Lookup<'i, 'p, 'r, 'w, 'o> {
             _ => Ok(false),
         }
     }
+}
 
-    /// Whether the piece refers to a result that isn't available.
-    fn piece_lacks(&self, alloc: Global, piece: &Piece<'_>) -> Result<bool, AllocError>
-        ensures { IfOk result (λ lacks. lacks ≡ piece_lacks self.now piece.now) }
-    {
-        match piece {
-            Piece::Plain(_) => Ok(false),
-            Piece::Ref(reference) => {
-                self.target_lacks(alloc, target_of(reference.parts.as_slice()))
-            }
-        }
+/// Whether a reference is to a result that isn't available.
+#[derive(Drop)]
+struct Lacks<'l, 'i, 'p, 'r, 'w, 'o> {
+    lookup: &'l Lookup<'i, 'p, 'r, 'w, 'o>,
+}
+
+impl<'l, 'i, 'p, 'r, 'w, 'o> ReferenceTest for Lacks<'l, 'i, 'p, 'r, 'w, 'o> {
+    ghost is_met = { λ t r. reference_lacks t.lookup.now r };
+
+    fn passes_over(&self, text: &str) -> bool {
+        is_plain(text)
     }
 
-    /// Whether one of these pieces refers to a result that isn't available.
-    fn pieces_lack(&self, alloc: Global, pieces: &[Piece<'_>]) -> Result<bool, AllocError>
-        ensures { IfOk result (λ lack. lack ≡ list_any (piece_lacks self.now) pieces.now) }
-    {
-        for piece in pieces {
-            if self.piece_lacks(alloc, piece)? {
-                return Ok(true);
-            }
-        }
-        Ok(false)
+    fn meets(&self, alloc: Global, reference: &Reference<'_>) -> Result<bool, AllocError> {
+        self.lookup
+            .target_lacks(alloc, target_of(reference.parts.as_slice()))
     }
+}
 
+impl<'i, 'p, 'r, 'w, 'o> Lookup<'i, 'p, 'r, 'w, 'o> {
     /// Whether a text refers to a result that isn't available. The only error is want of memory.
     pub fn text_lacks(&self, alloc: Global, text: &str) -> Result<bool, AllocError>
         requires { HasReading text.now }
         ensures { IfOk result (λ lacks. lacks ≡ text_lacks self.now text.now) }
     {
-        let pieces = pieces_of(alloc, text)?;
-        self.pieces_lack(alloc, pieces.as_slice())
+        any_reference(alloc, &Lacks { lookup: self }, text)
     }
 }

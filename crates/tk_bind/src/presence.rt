@@ -6,10 +6,10 @@ ghost use Rattle.tk_bind.specs.Substitute.{as_text, as_list, element, joined_tex
 
 use crate::found::Found;
 use crate::lookup::Lookup;
-use crate::substitution::{pieces_of, whole_of};
+use crate::substitution::whole_of;
 use std::alloc::{AllocError, Global};
 use tk_types::{Pair, Text};
-use tk_vars::{Piece, Reference};
+use tk_vars::{Piece, Reference, known_pieces};
 
 impl<'i, 'p, 'r, 'w, 'o> Lookup<'i, 'p, 'r, 'w, 'o> {
     /// Whether the reference takes a text.
@@ -59,7 +59,7 @@ impl<'i, 'p, 'r, 'w, 'o> Lookup<'i, 'p, 'r, 'w, 'o> {
         requires { HasReading text.now }
         ensures { IfOk result (λ has. has ≡ is_ok (substituted self.now text.now)) }
     {
-        let pieces = pieces_of(alloc, text)?;
+        let pieces = known_pieces(alloc, text)?;
         self.has_pieces(alloc, pieces.as_slice())
     }
 
@@ -68,7 +68,7 @@ impl<'i, 'p, 'r, 'w, 'o> Lookup<'i, 'p, 'r, 'w, 'o> {
         requires { HasReading text.now }
         ensures { IfOk result (λ has. has ≡ is_ok (element self.now text.now)) }
     {
-        let pieces = pieces_of(alloc, text)?;
+        let pieces = known_pieces(alloc, text)?;
         match whole_of(pieces.as_slice()) {
             None => self.has_pieces(alloc, pieces.as_slice()),
             Some(reference) => self.has_list(alloc, reference),

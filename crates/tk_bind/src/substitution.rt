@@ -14,19 +14,7 @@ use crate::lookup::{Lookup, index_of};
 use crate::refusal::SubstituteError;
 use std::alloc::{AllocError, Global};
 use tk_types::{List, Pair, Text, TryCopy, Value};
-use tk_vars::{Piece, Pieces, Reference, ScanError, scan};
-
-/// The pieces of a text that has a reading. The only error is want of memory.
-pub fn pieces_of(alloc: Global, text: &str) -> Result<Pieces<'_>, AllocError>
-    requires { HasReading text.now }
-    ensures { IfOk result (λ pieces. pieces ≡ pieces_of text.now) }
-{
-    match scan(alloc, text) {
-        Ok(pieces) => Ok(pieces),
-        Err(ScanError::BadReference { .. }) => unreachable!(),
-        Err(ScanError::Memory) => Err(AllocError),
-    }
-}
+use tk_vars::{Piece, Reference, known_pieces};
 
 /// The reference that is the whole text and ends with `[*]`.
 pub(crate) fn whole_of<'p, 't>(pieces: &'p [Piece<'t>]) -> Option<&'p Reference<'t>>
@@ -139,7 +127,7 @@ impl<'i, 'p, 'r, 'w, 'o> Lookup<'i, 'p, 'r, 'w, 'o> {
         ensures value { OnOk result (on_ok (λ ts. made.old ++ ts) (element self.now text.now) ≡ Ok made.new) }
         ensures refused { IfErr result (IsUnavailable (element self.now text.now)) }
     {
-        let pieces = pieces_of(alloc, text)?;
+        let pieces = known_pieces(alloc, text)?;
         match whole_of(pieces.as_slice()) {
             None => made.push(self.joined_text(alloc, pieces.as_slice())?)?,
             Some(reference) => push_all(alloc, made, self.list_of(alloc, reference)?)?,
@@ -153,7 +141,7 @@ impl<'i, 'p, 'r, 'w, 'o> Lookup<'i, 'p, 'r, 'w, 'o> {
         ensures value { IfOk result (λ value. whole_value self.now (pieces_of text.now) ≡ Ok value) }
         ensures refused { IfErr result (IsUnavailable (whole_value self.now (pieces_of text.now))) }
     {
-        let pieces = pieces_of(alloc, text)?;
+        let pieces = known_pieces(alloc, text)?;
         match whole_of(pieces.as_slice()) {
             None => Ok(Value::Str(self.joined_text(alloc, pieces.as_slice())?)),
             Some(reference) => self.value_of(alloc, reference),
@@ -166,7 +154,7 @@ impl<'i, 'p, 'r, 'w, 'o> Lookup<'i, 'p, 'r, 'w, 'o> {
         ensures value { IfOk result (λ t. substituted self.now text.now ≡ Ok t) }
         ensures refused { IfErr result (IsUnavailable (substituted self.now text.now)) }
     {
-        let pieces = pieces_of(alloc, text)?;
+        let pieces = known_pieces(alloc, text)?;
         self.joined_text(alloc, pieces.as_slice())
     }
 

@@ -27,7 +27,7 @@ use Rattle.tk_types.specs.declared.run.RunSpec.{RunSpec}
 use Rattle.tk_types.specs.declared.run.Start.{Start}
 use Rattle.tk_types.specs.declared.run.Start.TheVariants.{Ready, Unstartable}
 use Rattle.tk_resolve.specs.Lookup.{task_named}
-use Rattle.tk_resolve.specs.Possible.{possible_children, told_count}
+use Rattle.tk_early.specs.Possible.{possible_children, told_count}
 use Rattle.tk_resolve.specs.Run.{resolved_run}
 use Rattle.tk_resolve.specs.TaskRun.{resolved_task_run}
 use Rattle.tk_resolve.specs.Timeouts.{pipeline_ms, tasks_ms, finally_ms}

@@ -5,8 +5,6 @@ pub mod Found
 pub mod FoundPipeline
 pub mod Gathered
 pub mod LookedUp
-pub mod MatrixCounts
-pub mod MatrixLists
 pub mod Misused
 pub mod ParamsAlone
 pub mod PassedOver

@@ -15,9 +15,10 @@ use Rattle.tk_vars.specs.Task.{heads_task, names_task}
 use Rattle.tk_bind.specs.Scope.{is_status}
 use Rattle.tk_graph.specs.Results.{referenced_result}
 use Rattle.tk_graph.proofs.NoTask.{no_result, or_first, or_second}
+use Rattle.tk_early.proofs.ResultFacts.{no_result_is}
 use Rattle.tk_resolve.specs.declared.due.Due.{Due}
 use Rattle.tk_resolve.specs.Misuse.{is_misused, misuses, passes}
-use Rattle.tk_resolve.specs.Settled.{is_result, is_to_later, is_to_result}
+use Rattle.tk_resolve.specs.Settled.{is_to_later}
 
 -- where none of the references has what the test asks for, none of the pieces passes it
 none_passes : (has test : Reference → Bool) (pieces : List Piece) → ((r : Reference) → has r ≡ false → test r ≡ false)
@@ -39,12 +40,7 @@ none_passes_untasked test text asks none = none_passes names_task test (pieces_o
 
 -- Of the questions that ask for a task.
 
--- what refers to no result is no result, and none that is misused
-no_result_is : (target : Target) → referenced_result target ≡ None → is_result target ≡ false
-no_result_is (param name selector) none = refl
-no_result_is (result task name selector) none = cc
-no_result_is (word key) none = refl
-
+-- what refers to no result misuses none
 no_result_misused : (tasks : List (PipelineTask × TaskBody)) (due : Due) (target : Target) → referenced_result target ≡ None → is_misused tasks due target ≡ false
 no_result_misused tasks due (param name selector) none = refl
 no_result_misused tasks due (result task name selector) none = cc
@@ -64,10 +60,7 @@ no_status (Name head ∷ Name task ∷ Star ∷ parts) none = refl
 no_status (Name head ∷ Name task ∷ Name last ∷ []) none = rw (or_first (bytes_eq head (codes "tasks")) (bytes_eq head (codes "finally")) none) refl
 no_status (Name head ∷ Name task ∷ Name last ∷ part ∷ parts) none = refl
 
--- so of a text that names no task no reference is to a result, to what is known later, or misuses a result
-pub none_to_result : (due : Due) (text : List ℕ) → list_any names_task (references_of text) ≡ false → list_any (passes (is_to_result due)) (pieces_of text) ≡ false
-none_to_result due text none = none_passes_untasked (is_to_result due) text (λ r no. no_result_is (target_of r.parts) (no_result r.parts no)) none
-
+-- so of a text that names no task no reference is to what is known later, or misuses a result
 pub none_to_later : (due : Due) (text : List ℕ) → list_any names_task (references_of text) ≡ false → list_any (passes (is_to_later due)) (pieces_of text) ≡ false
 none_to_later due text none =
     none_passes_untasked (is_to_later due) text (λ r no. rw (no_result_is (target_of r.parts) (no_result r.parts no)) (no_status r.parts no)) none

@@ -17,7 +17,7 @@ use Rattle.tk_bind.specs.Readings.{ReadsObject, ReadsParam, ReadsPipelineSource,
 use Rattle.tk_resolve.specs.declared.reason.Reason.{Reason}
 use Rattle.tk_resolve.specs.declared.reason.Reason.TheVariants.{CouldntGetPipeline, CouldntGetTask}
 use Rattle.tk_resolve.specs.Laws.{HasItsTasks, HasNoTasks, HasOneBodyEach, ReadsRunSpec}
-use Rattle.tk_resolve.specs.Possible.{task_env}
+use Rattle.tk_early.specs.Words.{first_env}
 use Rattle.tk_resolve.specs.Run.{all_tasks, bodies_of, body_of, env_with, first_reason, pipeline_of, resolved_run, run_with_bodies, run_with_pipeline, startable, task_words, unstartable}
 use Rattle.tk_resolve.specs.TaskRun.{body_with, first_reason as first_task_reason, no_spec, resolved_task_run, spec_of, task_run_with}
 use Rattle.tk_resolve.specs.Values.{all_values}
@@ -120,7 +120,7 @@ task_run_reads earlier run own all = by_spec run (spec_of earlier run.source) (�
 
 -- values
 pub same_values : (earlier : List Item) (run : RunObject) (pipeline : PipelineSpec) (task : PipelineTask) → pipeline_of earlier run.source ≡ Some pipeline
-    → task_env (resolved_run earlier run) task ≡ env_with run pipeline (task_words run task)
+    → first_env (resolved_run earlier run) task ≡ env_with run pipeline (task_words run task)
 same_values earlier run pipeline task is =
-    let P : RunSpec → Type 0 = λ spec. task_env spec task ≡ env_with run pipeline (task_words run task) in
+    let P : RunSpec → Type 0 = λ spec. first_env spec task ≡ env_with run pipeline (task_words run task) in
     subst (λ (found : Option PipelineSpec). P (with_pipeline earlier run found)) (sym is) (by_pipeline P earlier run pipeline (λ reason. refl) (λ bodies are. refl))

@@ -2,7 +2,6 @@ pub mod Due
 pub mod Laws
 pub mod Lookup
 pub mod Misuse
-pub mod Possible
 pub mod Reasons
 pub mod Run
 pub mod Settled

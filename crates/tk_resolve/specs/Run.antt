@@ -1,5 +1,5 @@
 -- Resolved PipelineRuns (Tekton, PipelineRuns, Specifying the target Pipeline).
-use Rattle.std.specs.Prelude.{ℕ, Bool, ◌||◌, not, List, [], ◌∷◌, ◌++◌, map, flat_map, Option, Some, None, codes, decimal, option_map}
+use Rattle.std.specs.Prelude.{ℕ, Bool, ◌||◌, not, List, [], ◌∷◌, ◌++◌, map, flat_map, Option, Some, None, option_map}
 use Rattle.std.specs.List.{list_any, zip}
 use Rattle.tk_types.specs.declared.value.Pair.{Pair}
 use Rattle.tk_types.specs.declared.value.Param.{Param}
@@ -15,6 +15,7 @@ use Rattle.tk_types.specs.declared.object.PipelineSpec.{PipelineSpec}
 use Rattle.tk_types.specs.declared.object.RunObject.{RunObject}
 use Rattle.tk_types.specs.Lists.{all_some, first_row}
 use Rattle.tk_bind.specs.declared.env.Env.{Env}
+use Rattle.tk_early.specs.Words.{words_of}
 use Rattle.tk_resolve.specs.declared.due.Due.TheVariants.{AnyValue}
 use Rattle.tk_resolve.specs.Due.{task_dues, params_dues}
 use Rattle.tk_resolve.specs.Lookup.{task_named, pipeline_named}
@@ -58,17 +59,7 @@ all_tasks pipeline = pipeline.tasks ++ pipeline.finally
 abbrev pub bodies_of : List Item → RunObject → PipelineSpec → Option (List TaskBody)
 bodies_of earlier run pipeline = all_some (map (λ (t : PipelineTask). body_of earlier run pipeline t t.source) (all_tasks pipeline))
 
--- what the texts of a task of so many retries see at admission, in a run and a pipeline of these names
-abbrev pub words_with : List ℕ → List ℕ → ℕ → List Pair
-words_with run pipeline retries =
-    record { key = codes "context.pipelineRun.name"; value = run }
-    ∷ record { key = codes "context.pipeline.name"; value = pipeline }
-    ∷ record { key = codes "context.pipelineTask.retries"; value = decimal retries }
-    ∷ []
-
-abbrev pub words_of : List ℕ → List ℕ → PipelineTask → List Pair
-words_of run pipeline task = words_with run pipeline task.retries
-
+-- what the texts of a task see at admission
 abbrev pub task_words : RunObject → PipelineTask → List Pair
 task_words run task = words_of run.name (pipeline_name run run.source) task
 

@@ -1,5 +1,5 @@
 -- What of a task is known at admission, and whether its combinations fit (Tekton, Matrix).
-use Rattle.std.specs.Prelude.{ℕ, Bool, true, false, not, ◌||◌, nat_le, if◌then◌else◌, List, [], map, filter, flat_map, ◌++◌, Option, Ok, Err}
+use Rattle.std.specs.Prelude.{ℕ, Bool, false, not, ◌||◌, nat_le, if◌then◌else◌, List, [], map, filter, flat_map, ◌++◌, Option, Ok, Err}
 use Rattle.std.specs.List.{list_all}
 use Rattle.std.specs.Option.{option_map_or}
 use Rattle.tk_types.specs.declared.value.Param.{Param}
@@ -8,32 +8,21 @@ use Rattle.tk_types.specs.declared.task.Matrix.{Matrix}
 use Rattle.tk_types.specs.declared.task.PipelineTask.{PipelineTask}
 use Rattle.tk_types.specs.declared.task.TaskBody.{TaskBody}
 use Rattle.tk_vars.specs.declared.reference.Reference.{Reference}
-use Rattle.tk_vars.specs.Target.{Target, result, target_of}
 use Rattle.tk_bind.specs.declared.env.Env.{Env}
 use Rattle.tk_bind.specs.Bind.{bound_params}
 use Rattle.tk_bind.specs.Fits.{step_env}
 use Rattle.tk_bind.specs.Params.{params_in, matrix_in}
 use Rattle.tk_bind.specs.Scope.{is_in, is_status}
 use Rattle.tk_matrix.specs.Task.{task_combination_count, task_combinations}
+use Rattle.tk_early.specs.Settled.{is_settled, is_to_result}
 use Rattle.tk_resolve.specs.declared.due.Due.{Due}
 use Rattle.tk_resolve.specs.declared.due.Due.TheVariants.{AnyValue}
-use Rattle.tk_resolve.specs.Due.{matrix_dues, step_dues, value_dues}
+use Rattle.tk_resolve.specs.Due.{step_dues, value_dues}
 use Rattle.tk_resolve.specs.Misuse.{any_use, any_lacks}
 
--- the reference is to a result; and to a result or a status, which are known only in the run
-abbrev pub is_result : Target → Bool
-is_result (result task name selector) = true
-is_result target = false
-
-abbrev pub is_to_result : Due → Reference → Bool
-is_to_result due r = is_result (target_of r.parts)
-
+-- the reference is to a result or a status, which are known only in the run
 abbrev pub is_to_later : Due → Reference → Bool
-is_to_later due r = is_to_result due r || is_status r.parts
-
--- no value of the matrix refers to a result
-abbrev pub is_settled : PipelineTask → Bool
-is_settled task = not (any_use is_to_result (matrix_dues task.matrix))
+is_to_later due r = is_to_result r || is_status r.parts
 
 -- a parameter of the task's own whose value is known only in the run
 abbrev pub is_late : Param → Bool

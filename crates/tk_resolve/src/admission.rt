@@ -14,10 +14,10 @@ use crate::misuse::Declarer;
 use crate::questions::any_lacks;
 use crate::spec::pipeline_name;
 use crate::values::has_missing;
-use crate::words::RunWords;
 use std::alloc::{AllocError, Global};
 use std::marker::Model;
 use tk_bind::{EnvIndex, FirstNamed, Lookup};
+use tk_early::RunWords;
 use tk_types::{Pair, Param, PipelineSpec, PipelineTask, RunObject};
 
 /// A run with its Pipeline, whose values are found by their names. A contract sees the run and the Pipeline.

@@ -10,10 +10,11 @@ ghost use Rattle.tk_resolve.specs.Settled.{all_fit, fits_beside};
 
 use crate::due::{Due, steps_dues};
 use crate::questions::{any_lacks, is_among};
-use crate::settled::{is_settled, known_combinations, own_params, push_params};
+use crate::settled::{known_combinations, own_params, push_params};
 use std::alloc::{AllocError, Global};
 use std::marker::Model;
 use tk_bind::{BindError, EnvIndex, FirstNamed, Lookup, bind_params};
+use tk_early::is_settled;
 use tk_types::{List, Param, ParamSpec, PipelineTask, TaskBody, Text, TryCopy};
 
 /// A body beside late parameters: what it wants of the others, and the texts of its steps. A contract sees the names of

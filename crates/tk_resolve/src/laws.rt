@@ -1,7 +1,6 @@
 //! Laws of the definitions that the contracts cite.
 
 ghost use Rattle.std.specs.Prelude.{◌≡◌, ◌≤◌, ◌⊎◌, ℕ, List, Some, All};
-ghost use Rattle.std.specs.Option.{ForSome};
 ghost use Rattle.tk_types.specs.declared.task.PipelineTask.{PipelineTask};
 ghost use Rattle.tk_types.specs.declared.run.RunSpec.{RunSpec};
 ghost use Rattle.tk_types.specs.declared.object.Item.{Item};
@@ -9,8 +8,8 @@ ghost use Rattle.tk_types.specs.declared.object.PipelineSpec.{PipelineSpec};
 ghost use Rattle.tk_types.specs.declared.object.RunObject.{RunObject};
 ghost use Rattle.tk_types.specs.declared.object.TaskRunObject.{TaskRunObject};
 ghost use Rattle.tk_bind.specs.Readings.{ReadsObject, ReadsPipelineSource, ReadsTaskSource, ReadsTaskSpec};
+ghost use Rattle.tk_early.specs.Words.{first_env};
 ghost use Rattle.tk_resolve.specs.Laws.{HasItsTasks, HasNoTasks, HasOneBodyEach, IsSourceOf, ReadsRunSpec};
-ghost use Rattle.tk_resolve.specs.Possible.{most_combinations, possible_children, settled_count, task_env};
 ghost use Rattle.tk_resolve.specs.Run.{env_with, pipeline_of, resolved_run, task_words};
 ghost use Rattle.tk_resolve.specs.TaskRun.{resolved_task_run};
 
@@ -33,10 +32,5 @@ pub fn found_pipeline()
 
 /// A task of a resolved run is judged by what its texts saw when the run was resolved.
 pub fn same_values()
-    ensures { (earlier : List Item) (run : RunObject) (pipeline : PipelineSpec) (task : PipelineTask) → pipeline_of earlier run.source ≡ Some pipeline → task_env (resolved_run earlier run) task ≡ env_with run pipeline (task_words run task) }
-{}
-
-/// No task may have more than 256 children, unless its settled matrix has more combinations.
-pub fn few_children()
-    ensures { (spec : RunSpec) (task : PipelineTask) (children : ℕ) → ForSome (settled_count spec task) (λ count. count ≤ most_combinations) → possible_children spec task ≡ Some children → children ≤ most_combinations }
+    ensures { (earlier : List Item) (run : RunObject) (pipeline : PipelineSpec) (task : PipelineTask) → pipeline_of earlier run.source ≡ Some pipeline → first_env (resolved_run earlier run) task ≡ env_with run pipeline (task_words run task) }
 {}

@@ -1,7 +1,6 @@
 //! Runs with all that they refer to, or why they can't start: Tasks and Pipelines are looked up once among the earlier
 //! objects, parameters take their values, bodies get what they see from outside and their workspaces, and timeouts
-//! become those that hold. A run that can't start has the first reason that holds, and no tasks. It is told how many
-//! children a task of a resolved run may have.
+//! become those that hold. A run that can't start has the first reason that holds, and no tasks.
 #![tactic(auto)]
 
 mod admission;
@@ -11,7 +10,6 @@ mod due;
 pub mod laws;
 mod lookup;
 mod misuse;
-mod possible;
 mod questions;
 mod reason;
 mod run;
@@ -24,9 +22,7 @@ mod task_run_spec;
 mod timeouts;
 mod uses;
 mod values;
-mod words;
 
 pub use lookup::Earlier;
-pub use possible::RunValues;
 pub use run::resolve_run;
 pub use task_run::resolve_task;

@@ -4,14 +4,15 @@ ghost use Rattle.tk_bind.specs.Found.{found_value, meant};
 ghost use Rattle.tk_bind.specs.Scope.{is_in};
 ghost use Rattle.tk_resolve.specs.Due.{seen, type_of};
 ghost use Rattle.tk_resolve.specs.Misuse.{any_lacks, is_judged, lacks, takes_due};
-ghost use Rattle.tk_resolve.specs.Settled.{is_result, is_to_later, is_to_result};
+ghost use Rattle.tk_resolve.specs.Settled.{is_to_later};
 
 use crate::due::Due;
 use crate::uses::{Question, any_use};
 use std::alloc::{AllocError, Global};
 use tk_bind::{FirstNamed, Found, Lookup, Target, is_status, key_part, target_of};
+use tk_early::ToResult;
 use tk_types::{ParamType, Text};
-use tk_vars::{Reference, is_plain, names_no_task};
+use tk_vars::{Reference, ReferenceTest, is_plain, names_no_task};
 
 /// The type of a value that was found.
 fn type_of(found: Found<'_>) -> ParamType
@@ -91,34 +92,6 @@ impl<'l, 'i, 'p, 'r, 'w, 'o, 'n, 's> Question for Lacks<'l, 'i, 'p, 'r, 'w, 'o, 
     }
 }
 
-/// Whether a reference is to a result of a task.
-#[derive(Drop)]
-pub(crate) struct ToResult;
-
-/// Whether this is a result of a task.
-fn is_result(target: Target<'_>) -> bool
-    ensures { result ≡ is_result (meant target.entry) }
-{
-    matches!(target, Target::Result { .. })
-}
-
-impl Question for ToResult {
-    ghost asks = { λ q due r. is_to_result due r };
-
-    fn passes_over(&self, text: &str) -> bool {
-        names_no_task(text)
-    }
-
-    fn holds(
-        &self,
-        _alloc: Global,
-        _due: Due,
-        reference: &Reference<'_>,
-    ) -> Result<bool, AllocError> {
-        Ok(is_result(target_of(reference.parts.as_slice())))
-    }
-}
-
 /// Whether a reference is to what is known only in the run: a result or a status.
 #[derive(Drop)]
 pub(crate) struct ToLater;
@@ -132,12 +105,12 @@ impl Question for ToLater {
 
     fn holds(
         &self,
-        _alloc: Global,
+        alloc: Global,
         _due: Due,
         reference: &Reference<'_>,
     ) -> Result<bool, AllocError> {
         let parts = reference.parts.as_slice();
-        Ok(is_result(target_of(parts)) || is_status(parts))
+        Ok(ToResult.meets(alloc, reference)? || is_status(parts))
     }
 }
 

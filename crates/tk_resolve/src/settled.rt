@@ -2,24 +2,16 @@ ghost use Rattle.std.specs.Prelude.{◌≡◌, ◌++◌, filter, map, not, true,
 ghost use Rattle.std.specs.Option.{ForSome};
 ghost use Rattle.tk_matrix.specs.Product.{HasLists};
 ghost use Rattle.tk_bind.specs.Readings.{ReadsMatrix, ReadsParam, ReadsParams, ReadsPipelineTask};
-ghost use Rattle.tk_resolve.specs.Settled.{early_params, is_late, is_settled, judged_combinations, known_combinations, late_names};
+ghost use Rattle.tk_early.specs.Settled.{is_settled};
+ghost use Rattle.tk_resolve.specs.Settled.{early_params, is_late, judged_combinations, known_combinations, late_names};
 
-use crate::due::{matrix_dues, param_dues};
-use crate::questions::{ToLater, ToResult};
+use crate::due::param_dues;
+use crate::questions::ToLater;
 use crate::uses::any_use;
 use std::alloc::{AllocError, Global};
 use tk_bind::{Lookup, matrix_in, params_in};
 use tk_matrix::{all, count};
 use tk_types::{List, Matrix, Param, PipelineTask, Text, TryCopy};
-
-/// Whether no value of a task's matrix refers to a result. The only error is want of memory.
-pub(crate) fn is_settled(alloc: Global, task: &PipelineTask) -> Result<bool, AllocError>
-    requires { ReadsPipelineTask task.now }
-    ensures { IfOk result (λ settled. settled ≡ is_settled task.now) }
-{
-    let texts = matrix_dues(alloc, &task.matrix)?;
-    Ok(!any_use(alloc, &ToResult, texts.as_slice())?)
-}
 
 /// Whether the value of a parameter is known only in the run.
 fn is_late(alloc: Global, param: &Param) -> Result<bool, AllocError>

@@ -7,7 +7,7 @@ ghost use Rattle.tk_resolve.specs.Misuse.{any_use, passes};
 use crate::due::Due;
 use std::alloc::{AllocError, Global};
 use tk_types::Text;
-use tk_vars::{Piece, Pieces, Reference, ScanError, scan};
+use tk_vars::{Piece, Reference, known_pieces};
 
 /// A question about a reference where something is due.
 pub(crate) trait Question {
@@ -24,18 +24,6 @@ pub(crate) trait Question {
     /// The answer. The only error is want of memory.
     fn holds(&self, alloc: Global, due: Due, reference: &Reference<'_>) -> Result<bool, AllocError>
         ensures { IfOk result (λ holds. holds ≡ asks self.now due reference.now) };
-}
-
-/// The pieces of a text that has a reading.
-fn pieces_of(alloc: Global, text: &str) -> Result<Pieces<'_>, AllocError>
-    requires { HasReading text.now }
-    ensures { IfOk result (λ pieces. pieces ≡ pieces_of text.now) }
-{
-    match scan(alloc, text) {
-        Ok(pieces) => Ok(pieces),
-        Err(ScanError::BadReference { .. }) => unreachable!(),
-        Err(ScanError::Memory) => Err(AllocError),
-    }
 }
 
 /// The answer for a piece, which is no for a plain one.
@@ -83,7 +71,7 @@ fn any_in_text<Q: Question>(
     if question.passes_over(text) {
         return Ok(false);
     }
-    let pieces = pieces_of(alloc, text)?;
+    let pieces = known_pieces(alloc, text)?;
     any_piece(alloc, question, due, pieces.as_slice())
 }
 

@@ -1,5 +1,5 @@
 ghost use Rattle.std.specs.Prelude.{◌≡◌, [], ◌∷◌, Some, None, IfOk, IfErr, OnOk, option_map};
-ghost use Rattle.tk_types.specs.declared.fault.Detail.TheVariants.{Names as NamesTold};
+ghost use Rattle.tk_types.specs.declared.fault.Detail.TheVariants.{Names as NamesTold, Reference as ReferenceTold};
 ghost use Rattle.tk_types.specs.Fault.{bad_reference, fault};
 ghost use Rattle.tk_types.specs.Rejected.{IsRefusal, Reads};
 ghost use Rattle.tk_vars.specs.Offset.{bad_offset};
@@ -37,6 +37,16 @@ pub(crate) fn told_name(alloc: Global, number: u8, place: &Location<'_>, name: &
     }
 }
 
+/// A fault about a reference to what isn't there.
+fn told_unknown(alloc: Global, place: &Location<'_>, spelling: &str) -> Rejected
+    ensures { IsRefusal (Some (fault 15 place.now (ReferenceTold spelling.now))) result }
+{
+    match Text::from_str(alloc, spelling) {
+        Ok(reference) => told(alloc, 15, place, Detail::Reference(reference)),
+        Err(_) => Rejected::Memory,
+    }
+}
+
 /// Refuses a reference to what isn't in a scope, the first.
 fn check_visible(
     alloc: Global,
@@ -47,7 +57,7 @@ fn check_visible(
     ensures { Reads (visible_finding names.now pieces.now place.now) tt result }
 {
     match first_unknown(alloc, names, pieces)? {
-        Some(reference) => Err(told_name(alloc, 15, place, reference.spelling.as_str())),
+        Some(reference) => Err(told_unknown(alloc, place, reference.spelling.as_str())),
         None => Ok(()),
     }
 }

@@ -32,11 +32,12 @@ use Rattle.tk_graph.specs.Parents.{IsAcyclic}
 use Rattle.tk_verdict.specs.Available.{with_child, by_index, available_results}
 use Rattle.tk_verdict.specs.Bindings.{few_combinations, combinations_in, is_broken, is_refused, has_no_combination}
 use Rattle.tk_verdict.specs.Facts.{all_tasks, task_total, children_of, is_running, first_stop, first_late_stop}
-use Rattle.tk_verdict.specs.Gives.{label_of, first_labels, Gives, to_task, to_final, HasExactly, HasEntries, has_entry, first_env}
+use Rattle.tk_verdict.specs.Gives.{label_of, first_labels, Gives, to_task, to_final, HasExactly, HasEntries, has_entry}
 use Rattle.tk_verdict.specs.Labels.{labels_of, labelled_parents, has_exact_children, label_by, bindings_in}
 use Rattle.tk_verdict.specs.Rows.{is_good_parent, own_rows, lacks_result, lacks_any_result, task_row, finally_row}
 use Rattle.tk_verdict.specs.Verdict.{blocks}
-use Rattle.tk_verdict.specs.Words.{task_words, task_env, env_with, finally_env, status_words}
+use Rattle.tk_early.specs.Words.{first_env, task_words}
+use Rattle.tk_verdict.specs.Words.{task_env, env_with, finally_env, status_words}
 use Rattle.tk_verdict.proofs.Elements.{all_at, front_get, back_get}
 use Rattle.tk_verdict.proofs.GoodStays.{task_in}
 use Rattle.tk_verdict.proofs.HasValues.{same_matrix}

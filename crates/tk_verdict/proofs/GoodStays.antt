@@ -30,7 +30,8 @@ use Rattle.tk_verdict.specs.Labels.{labels_of, labelled_parents, label_by}
 use Rattle.tk_verdict.specs.Rows.{is_good_parent, refers_to, own_rows, lacks_result, task_row}
 use Rattle.tk_verdict.specs.Verdict.{is_skipped, is_skipped_by_when, blocks}
 use Rattle.tk_verdict.specs.WellFormed.{IsWellFormed}
-use Rattle.tk_verdict.specs.Words.{task_words, task_env}
+use Rattle.tk_early.specs.Words.{task_words}
+use Rattle.tk_verdict.specs.Words.{task_env}
 use Rattle.tk_verdict.proofs.Elements.{any_same, all_of, all_at, map_in}
 use Rattle.tk_verdict.proofs.Lines.{next_by, ready_parts, skipped_parts, row_is, ready_has_none, skipped_has_none, task_label}
 use Rattle.tk_verdict.proofs.Locality.{parents_within}

@@ -30,7 +30,8 @@ use Rattle.tk_verdict.specs.Labels.{labels_of, labelled_parents, label_by, final
 use Rattle.tk_verdict.specs.Rows.{is_good_parent, lacks_result, task_row, lacks_any_result, finally_row}
 use Rattle.tk_verdict.specs.Verdict.{label_at, is_done, is_skipped, is_skipped_by_when, is_broken_label, is_stopped_label, blocks}
 use Rattle.tk_verdict.specs.WellFormed.{IsWellFormed}
-use Rattle.tk_verdict.specs.Words.{task_words, task_env, env_with, finally_env, status_words, status_word, task_status, has_bad_child}
+use Rattle.tk_early.specs.Words.{task_words}
+use Rattle.tk_verdict.specs.Words.{task_env, env_with, finally_env, status_words, status_word, task_status, has_bad_child}
 use Rattle.tk_verdict.proofs.Elements.{same_default, all_at, map_same, each_from, enumerated}
 use Rattle.tk_verdict.proofs.GoodStays.{own_same, task_agrees, task_in}
 use Rattle.tk_verdict.proofs.Lines.{next_by, done_stays, done_rests, labels_length, task_label, final_label}

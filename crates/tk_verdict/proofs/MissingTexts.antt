@@ -5,15 +5,13 @@ use Rattle.std.specs.List.{list_any, cons_option}
 use Rattle.std.specs.Option.{option_map_or}
 use Rattle.std.proofs.lemmas.List.Folds.{list_any-append}
 use Rattle.std.proofs.lemmas.List.Elements.{All-tail}
-use Rattle.tk_vars.specs.declared.piece.Piece.{Piece}
-use Rattle.tk_vars.specs.declared.piece.Piece.TheVariants.{Plain, Ref}
 use Rattle.tk_vars.specs.declared.reference.Reference.{Reference}
-use Rattle.tk_vars.specs.Reading.{HasReading, pieces_of}
-use Rattle.tk_vars.specs.Target.{Target, param, result, word, target_of, referenced}
+use Rattle.tk_vars.specs.Reading.{HasReading}
+use Rattle.tk_vars.specs.Target.{Target, param, result, word, target_of, references_of}
 use Rattle.tk_vars.proofs.OffsetFacts.{bad_offset-none}
 use Rattle.tk_graph.specs.Results.{referenced_result, results_read, text_results}
 use Rattle.tk_bind.specs.declared.env.Env.{Env}
-use Rattle.tk_bind.specs.Lacking.{piece_lacks, target_lacks, text_lacks}
+use Rattle.tk_bind.specs.Lacking.{reference_lacks, target_lacks, text_lacks}
 use Rattle.tk_bind.specs.Substitute.{result_named}
 
 abbrev Named : Type 0
@@ -32,18 +30,17 @@ first_missing : (test : Named → Bool) (o : Option Named) (rest : List Named) (
 first_missing test None rest b same = same
 first_missing test (Some r) rest b same = ap (λ c. test r || c) same
 
-pieces_missing : (env : Env) (pieces : List Piece)
-    → list_any (piece_lacks env) pieces ≡ list_any (is_missing env) (filter_map (λ (r : Reference). referenced_result (target_of r.parts)) (filter_map referenced pieces))
-pieces_missing env [] = refl
-pieces_missing env (Plain text ∷ pieces) = pieces_missing env pieces
-pieces_missing env (Ref r ∷ pieces) =
-    ap (λ b. b || list_any (piece_lacks env) pieces) (target_missing env (target_of r.parts))
-    ∙ first_missing (is_missing env) (referenced_result (target_of r.parts)) _ (list_any (piece_lacks env) pieces) (pieces_missing env pieces)
+references_missing : (env : Env) (references : List Reference)
+    → list_any (reference_lacks env) references ≡ list_any (is_missing env) (filter_map (λ (r : Reference). referenced_result (target_of r.parts)) references)
+references_missing env [] = refl
+references_missing env (r ∷ references) =
+    ap (λ b. b || list_any (reference_lacks env) references) (target_missing env (target_of r.parts))
+    ∙ first_missing (is_missing env) (referenced_result (target_of r.parts)) _ (list_any (reference_lacks env) references) (references_missing env references)
 
 text_missing : (env : Env) (text : List ℕ) → HasReading text → text_lacks env text ≡ list_any (is_missing env) (text_results text)
 unfolding text_results
 text_missing env text reads =
-    pieces_missing env (pieces_of text)
+    references_missing env (references_of text)
     ∙ sym (ap (λ (o : Option ℕ). list_any (is_missing env) (elim o [ None ↦ results_read text | Some offset ↦ [] ])) (bad_offset-none text reads))
 
 pub texts_missing : (env : Env) (texts : List (List ℕ)) → All HasReading texts → list_any (text_lacks env) texts ≡ list_any (is_missing env) (flat_map text_results texts)

@@ -15,7 +15,7 @@ use Rattle.tk_verdict.specs.Labels.{labels_of, labelled_parents, bindings_in}
 use Rattle.tk_verdict.specs.Rows.{is_good_parent, task_row, finally_row}
 use Rattle.tk_verdict.specs.Verdict.{label_at, is_done}
 use Rattle.tk_bind.specs.declared.env.Env.{Env}
-use Rattle.tk_verdict.specs.Words.{task_words, task_env, finally_env}
+use Rattle.tk_verdict.specs.Words.{task_env, finally_env}
 
 -- the label of the task at a place, and those of `tasks`
 abbrev pub label_of : Facts → ℕ → Verdict
@@ -43,10 +43,6 @@ pub record GivesFinal (facts : Facts) (place : ℕ) (task : PipelineTask) (bindi
 pub data Gives (facts : Facts) (place : ℕ) (bindings : List Binding) : Type 0 where
   to_task : {task : PipelineTask} → GivesTask facts place task bindings → Gives facts place bindings
   to_final : {task : PipelineTask} → GivesFinal facts place task bindings → Gives facts place bindings
-
--- what the texts of a task see before any child ended
-abbrev pub first_env : RunSpec → PipelineTask → Env
-first_env spec task = record { params = spec.params; results = []; words = task_words spec task }
 
 -- the task has no children
 abbrev pub HasNoChildren : Facts → ℕ → Type 0

@@ -1,6 +1,7 @@
 pub mod Available
 pub mod Bindings
 pub mod Condition
+pub mod Decision
 pub mod Facts
 pub mod Failures
 pub mod Gathered

@@ -1,25 +1,17 @@
 -- What the texts of a run's tasks and results see (Tekton, Pipelines, Variable Substitutions Supported by Tasks and Pipelines).
-use Rattle.std.specs.Prelude.{ℕ, Bool, ◌||◌, not, List, [], ◌∷◌, ◌++◌, Option, filter_map, option_map, unwrap_or, codes, decimal}
+use Rattle.std.specs.Prelude.{ℕ, Bool, ◌||◌, not, List, [], ◌∷◌, ◌++◌, Option, filter_map, option_map, unwrap_or, codes}
 use Rattle.std.specs.List.{list_any, enumerate_from}
 use Rattle.tk_types.specs.declared.value.Pair.{Pair}
 use Rattle.tk_types.specs.declared.task.PipelineTask.{PipelineTask}
-use Rattle.tk_types.specs.declared.run.RunSpec.{RunSpec}
 use Rattle.tk_types.specs.declared.run.Facts.{Facts}
 use Rattle.tk_types.specs.declared.run.Child.{Child}
 use Rattle.tk_types.specs.declared.verdict.Verdict.{Verdict}
 use Rattle.tk_types.specs.Lists.{first_row}
 use Rattle.tk_bind.specs.declared.env.Env.{Env}
+use Rattle.tk_early.specs.Words.{run_words, task_words}
 use Rattle.tk_verdict.specs.Facts.{children_of, has_ended, all_ended, is_success, is_good}
 use Rattle.tk_verdict.specs.Available.{available_results}
 use Rattle.tk_verdict.specs.Verdict.{label_at, is_skipped, is_broken_label, is_stopped_label}
-
--- the variables of the run, and of a task
-abbrev pub run_words : RunSpec → List Pair
-run_words spec =
-    record { key = codes "context.pipelineRun.name"; value = spec.name } ∷ record { key = codes "context.pipeline.name"; value = spec.pipeline } ∷ []
-
-abbrev pub task_words : RunSpec → PipelineTask → List Pair
-task_words spec task = run_words spec ++ record { key = codes "context.pipelineTask.retries"; value = decimal task.retries } ∷ []
 
 -- the status of a task, if it has one yet
 abbrev pub task_status_rows : List Child → Verdict → List (Bool × List ℕ)

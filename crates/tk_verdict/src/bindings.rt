@@ -2,22 +2,19 @@ ghost use Rattle.std.specs.Prelude.{◌≡◌, ◌<◌, ◌≤◌, ◌^◌, leng
 ghost use Rattle.tk_verdict.specs.Available.{available_results as results_available};
 ghost use Rattle.tk_verdict.specs.Facts.{task_total};
 ghost use Rattle.tk_verdict.specs.Gathered.{IsReadable};
-ghost use Rattle.tk_verdict.specs.Labels.{bindings_at as bindings_of_place, bindings_in as bindings_of, labels_of, ready_bindings};
+ghost use Rattle.tk_verdict.specs.Labels.{bindings_at as bindings_of_place, bindings_in as bindings_of, labels_of, ready_bindings as bindings_of_ready};
 ghost use Rattle.tk_verdict.specs.Readings.{ReadsTask};
 ghost use Rattle.tk_verdict.specs.Verdict.{is_ready as is_ready_label};
 ghost use Rattle.tk_verdict.specs.WellFormed.{IsWellFormed};
 ghost use Rattle.tk_verdict.specs.Words.{finally_env, task_env};
 
-use crate::available::available_results;
-use crate::calls::{groups_of, ranks_of_run};
 use crate::combined::combinations_in;
 use crate::groups::Groups;
-use crate::labels::labels;
 use crate::parents::label_at;
 use crate::status::status_words;
-use crate::words::task_words;
 use std::alloc::{AllocError, Global};
 use tk_bind::{EnvIndex, Given, Lookup};
+use tk_early::task_words;
 use tk_types::{Binding, Facts, List, Param, PipelineTask, TryCopy, Verdict};
 
 /// Bindings of these parameters.
@@ -135,20 +132,23 @@ fn is_ready(label: Verdict) -> bool
     matches!(label, Verdict::Ready)
 }
 
-/// The bindings of the task at a place, one for each of its combinations in order, Some exactly where the task is Ready
-/// (Tekton, Matrix, Fanning out): the task's own parameters first, then the combination's. The only error is want of
-/// memory.
-pub fn ready(alloc: Global, facts: &Facts, task: u32) -> Result<Option<List<Binding>>, AllocError>
+/// The same, where the task is Ready.
+pub(crate) fn ready_bindings(
+    alloc: Global,
+    facts: &Facts,
+    groups: &Groups,
+    results: &[Given],
+    labels: &[Verdict],
+    task: u32,
+) -> Result<Option<List<Binding>>, AllocError>
     requires well_formed { IsWellFormed facts.now }
-    ensures { IfOk result (λ made. made ≡ ready_bindings facts.now (labels_of facts.now) task) }
+    requires same { groups.now ≡ facts.now.children }
+    requires results { results.now ≡ results_available facts.now }
+    requires labels { labels.now ≡ labels_of facts.now }
+    ensures { IfOk result (λ made. made ≡ bindings_of_ready facts.now labels.now task) }
 {
-    let ranks = ranks_of_run(alloc, facts)?;
-    let groups = groups_of(alloc, facts)?;
-    let results = available_results(alloc, facts, &groups)?;
-    let results = results.as_slice();
-    let labels = labels(alloc, facts, &groups, results, ranks.list.as_slice())?;
-    if !is_ready(label_at(labels.as_slice(), task)) {
+    if !is_ready(label_at(labels, task)) {
         return Ok(None);
     }
-    bindings_at(alloc, facts, &groups, results, labels.as_slice(), task)
+    bindings_at(alloc, facts, groups, results, labels, task)
 }

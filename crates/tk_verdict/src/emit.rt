@@ -1,14 +1,13 @@
 ghost use Rattle.std.specs.Prelude.{◌≡◌, ◌++◌, filter_map, option_to_list, IfOk, OnOk};
 ghost use Rattle.tk_bind.specs.Params.{param_in as param_in_env};
 ghost use Rattle.tk_bind.specs.Readings.{ReadsParam, ReadsParams};
+ghost use Rattle.tk_verdict.specs.Available.{available_results};
 ghost use Rattle.tk_verdict.specs.Condition.{results_of};
 ghost use Rattle.tk_verdict.specs.WellFormed.{IsWellFormed};
 
-use crate::available::available_results;
-use crate::calls::groups_of;
-use crate::words::run_words;
 use std::alloc::{AllocError, Global};
-use tk_bind::{EnvIndex, Lookup, param_in};
+use tk_bind::{EnvIndex, Given, Lookup, param_in};
+use tk_early::run_words;
 use tk_types::{Facts, List, Param};
 
 /// The parameters all of whose references have values, with these.
@@ -29,19 +28,21 @@ fn params_with_values(
     Ok(made)
 }
 
-/// The results of a run's pipeline all of whose references have values (Tekton, Pipelines, Emitting Results from a
-/// Pipeline). The only error is want of memory.
-pub fn pipeline_results(alloc: Global, facts: &Facts) -> Result<List<Param>, AllocError>
+/// The results of a run's pipeline all of whose references have values, by these available results.
+pub(crate) fn results_with(
+    alloc: Global,
+    facts: &Facts,
+    results: &[Given],
+) -> Result<List<Param>, AllocError>
     requires well_formed { IsWellFormed facts.now }
-    ensures { IfOk result (λ results. results ≡ results_of facts.now) }
+    requires results { results.now ≡ available_results facts.now }
+    ensures { IfOk result (λ made. made ≡ results_of facts.now) }
 {
-    let groups = groups_of(alloc, facts)?;
-    let results = available_results(alloc, facts, &groups)?;
     let words = run_words(alloc, &facts.spec)?;
     let index = EnvIndex::new(
         alloc,
         facts.spec.params.as_slice(),
-        results.as_slice(),
+        results,
         words.as_slice(),
     )?;
     let lookup = Lookup::new(&index, &[]);

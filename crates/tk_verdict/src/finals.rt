@@ -14,9 +14,9 @@ use crate::judge::label_by;
 use crate::label::is_done;
 use crate::missing::lacks_any_result;
 use crate::own::{own_of, own_row};
-use crate::words::task_words;
 use std::alloc::{AllocError, Global};
 use tk_bind::{EnvIndex, Lookup};
+use tk_early::task_words;
 use tk_types::{Child, Facts, PipelineTask, SkipReason, Stop, TaskBody, Verdict};
 
 /// Whether all tasks with these labels are done.

@@ -1,8 +1,8 @@
-//! The decision of a run, from its spec, its recorded stops and its children. `verdicts` gives the label of each task: a
-//! labelling is right where each task has the label that the others' give it, and an acyclic run has exactly one.
-//! `condition` gives the run's condition, `pipeline_results` its results, and `ready` the bindings of the children that a
-//! task is to get. The laws say that there is one labelling, what stays when the facts of a run move on, and that a run
-//! goes on until all is done.
+//! The decision of a run, from its spec, its recorded stops and its children: the label of each task, the run's
+//! condition, its results, and the bindings of the children that a task is to get. A labelling is right where each task
+//! has the label that the others' give it, and an acyclic run has exactly one. `Decision` answers all of it for one run;
+//! `verdicts`, `condition`, `pipeline_results` and `ready` answer one question each. The laws say that there is one
+//! labelling, what stays when the facts of a run move on, and that a run goes on until all is done.
 #![tactic(auto)]
 
 mod available;
@@ -10,6 +10,7 @@ mod bindings;
 mod calls;
 mod children;
 mod combined;
+mod decision;
 mod emit;
 mod emitted;
 mod finals;
@@ -33,9 +34,6 @@ mod sorted;
 mod status;
 mod tasks;
 mod walk;
-mod words;
 
-pub use bindings::ready;
-pub use calls::{condition, verdicts, verdicts_by};
-pub use emit::pipeline_results;
+pub use decision::{Decision, condition, pipeline_results, ready, verdicts};
 pub use finished::condition_with;

@@ -15,9 +15,9 @@ use crate::groups::Groups;
 use crate::judge::label_by;
 use crate::own::{Own, own_of, own_row};
 use crate::parents::{are_good, is_blocked, lacks_result};
-use crate::words::task_words;
 use std::alloc::{AllocError, Global};
 use tk_bind::{EnvIndex, Lookup};
+use tk_early::task_words;
 use tk_types::{Child, Facts, PipelineTask, SkipReason, Stop, TaskBody, Verdict};
 
 /// What the own texts of a task of `tasks` give.

@@ -2,7 +2,7 @@ use Rattle.std.proofs.Common.{not, sym, ◌∙◌}
 use Rattle.std.proofs.lemmas.List.Elements.{All-filter, All-same}
 use Rattle.tk_bind.specs.Readings.{ReadsParam}
 use Rattle.tk_resolve.specs.Settled.{early_params, is_late}
-use Rattle.tk_resolve.proofs.MatrixLists.{matrix_has_lists}
+use Rattle.tk_early.proofs.MatrixLists.{matrix_has_lists}
 use Rattle.tk_resolve.proofs.settled.known_combinations.Goals as goal
 
 pub params_in-requires : goal.params_in-requires

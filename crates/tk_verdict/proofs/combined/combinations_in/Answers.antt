@@ -1,5 +1,5 @@
 use Rattle.std.proofs.Common.{sym, ◌∙◌}
-use Rattle.tk_verdict.proofs.MatrixLists.{matrix_has_lists}
+use Rattle.tk_early.proofs.MatrixLists.{matrix_has_lists}
 use Rattle.tk_verdict.proofs.combined.combinations_in.Goals as goal
 
 pub combinations_of-requires-clause-lists : goal.combinations_of-requires-clause-lists

@@ -1,4 +1,5 @@
 use Rattle.tk_verdict.proofs.GivenRight.{gives_place, gives_some, gives_within, gives_counted}
+use Rattle.tk_verdict.proofs.PossibleChildren.{gives_possible}
 use Rattle.tk_verdict.proofs.giving.gives_some.Goals as goal
 
 pub returns-clause-exists : goal.returns-clause-exists
@@ -12,3 +13,6 @@ returns-clause-few c = gives_within
 
 pub returns-clause-counted : goal.returns-clause-counted
 returns-clause-counted c = gives_counted
+
+pub returns-clause-possible : goal.returns-clause-possible
+returns-clause-possible c = gives_possible

@@ -1,8 +1,0 @@
-use Rattle.std.proofs.Common.{◌≡◌, None, not, find, filter_map, take}
-use Rattle.tk_vars.specs.Target.{referenced}
-use Rattle.tk_bind.specs.Scope.{is_visible}
-use Rattle.tk_bind.proofs.check.first_unknown.Given as goal
-
--- no reference of the pieces so far is one
-abbrev pub invariant-loop-piece : goal.invariant-loop-piece
-invariant-loop-piece l = find (λ r. not (is_visible l.names r)) (filter_map referenced (take l.piece-index l.pieces)) ≡ None

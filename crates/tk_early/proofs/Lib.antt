@@ -1,0 +1,3 @@
+pub mod MatrixCounts
+pub mod MatrixLists
+pub mod ResultFacts

@@ -1,5 +1,0 @@
-use Rattle.tk_resolve.proofs.MatrixCounts.{few_children}
-use Rattle.tk_resolve.proofs.laws.few_children.Goals as goal
-
-pub returns : goal.returns
-returns c = λ spec task children few is. few_children spec task children few is
