@@ -1,6 +1,8 @@
 -- What a host's record owes when it gives a new child.
-use Rattle.std.proofs.Common.{◌≡◌, ◌≤◌, ◌<◌, ◌+◌, ℕ, zero, suc, true, false, List, [], ◌∷◌, ◌++◌, length, refl, sym, ap, ◌∙◌, inl, inr, arith, nat_eq, get_or, reverse, subst}
+use Rattle.std.proofs.Common.{◌≡◌, ◌≤◌, ◌<◌, ◌+◌, ℕ, zero, suc, Bool, true, false, List, [], ◌∷◌, ◌++◌, length, refl, sym, ap, ◌∙◌, inl, inr, arith, nat_eq, get_or, reverse, subst}
 use Rattle.std.specs.Prelude.{Some, if◌then◌else◌}
+use Rattle.std.proofs.Math.Bool.{or-true}
+use Rattle.std.proofs.lemmas.Bool.{cases_lt}
 use Rattle.std.proofs.lemmas.Bool.Decides.{eqb_tells}
 use Rattle.std.proofs.lemmas.List.{length-append, reverse-append, get_or_past}
 use Rattle.tk_edge.specs.declared.event.Event.{Event}
@@ -10,9 +12,9 @@ use Rattle.tk_edge.specs.declared.order.Order.{Order}
 use Rattle.tk_edge.specs.declared.host_log.ChildLog.{ChildLog}
 use Rattle.tk_edge.specs.History.{names}
 use Rattle.tk_edge.specs.Memory.{is_named}
-use Rattle.tk_edge.specs.HostLog.{counts, blank, entry, IsIndexed}
+use Rattle.tk_edge.specs.HostLog.{counts, flags, blank, entry, IsIndexed, IsWhole}
 
-nat_eq_true : (m n : ℕ) → m ≡ n → nat_eq m n ≡ true
+pub nat_eq_true : (m n : ℕ) → m ≡ n → nat_eq m n ≡ true
 nat_eq_true m n is = elim (eqb_tells m n) [
   | inl hit ↦ hit.0
   | inr miss ↦ absurd (miss.1 is)
@@ -24,7 +26,7 @@ nat_eq_false m n not = elim (eqb_tells m n) [
   | inr miss ↦ miss.0
 ]
 
-push_at : {X : Type 0} (xs : List X) (x d : X) (n : ℕ) → get_or (xs ++ x ∷ []) n d ≡ (if nat_eq n (length xs) then x else get_or xs n d)
+pub push_at : {X : Type 0} (xs : List X) (x d : X) (n : ℕ) → get_or (xs ++ x ∷ []) n d ≡ (if nat_eq n (length xs) then x else get_or xs n d)
 push_at [] x d zero = refl
 push_at [] x d (suc n) = elim (eqb_tells (suc n) 0) [
   | inl hit ↦ absurd (omega (arith, hit.1))
@@ -39,15 +41,19 @@ push_at (y ∷ xs) x d (suc n) = elim (eqb_tells (suc n) (length (y ∷ xs))) [
   | inr miss ↦ push_at xs x d n ∙ rw miss.0 (rw (nat_eq_false n (length xs) (λ is. miss.1 (ap suc is))) refl)
 ]
 
+push_blank : {X : Type 0} (xs : List X) (d : X) (child : ℕ) → get_or (xs ++ d ∷ []) child d ≡ get_or xs child d
+push_blank xs d child = elim (eqb_tells child (length xs)) [
+  | inl hit ↦ push_at xs d d child ∙ rw hit.0 (sym (get_or_past xs child d (omega (arith, hit.1))))
+  | inr miss ↦ push_at xs d d child ∙ rw miss.0 refl
+]
+
 -- a new child was never watched
 pub counts_push : (watches : List ℕ) → counts (watches ++ 0 ∷ []) ≡ counts watches
-counts_push watches = λ i child. same child i
-  where
-    same : (child : ℕ) → get_or (watches ++ 0 ∷ []) child 0 ≡ get_or watches child 0
-    same child = elim (eqb_tells child (length watches)) [
-      | inl hit ↦ push_at watches 0 0 child ∙ rw hit.0 (sym (get_or_past watches child 0 (omega (arith, hit.1))))
-      | inr miss ↦ push_at watches 0 0 child ∙ rw miss.0 refl
-    ]
+counts_push watches = λ i child. push_blank watches 0 child i
+
+-- a new child isn't killed
+pub flags_push : (killed : List Bool) → flags (killed ++ false ∷ []) ≡ flags killed
+flags_push killed = λ i child. push_blank killed false child i
 
 new_named : (told : List Event) (children : List ChildLog) (c : ChildLog) (e : Event) → IsIndexed told children → ((other : ℕ) → names other e ≡ nat_eq other (length children)) → (other : ℕ) → length (children ++ c ∷ []) ≤ other → is_named other (e ∷ told) ≡ false
 new_named told children c e i named other past =
@@ -55,6 +61,20 @@ new_named told children c e i named other past =
     elim (eqb_tells other (length children)) [
       | inl same ↦ absurd (omega (arith, same.1))
       | inr differ ↦ rw (named other) (rw differ.0 (i.names other (omega arith)))
+    ]
+
+new_known : (told : List Event) (children : List ChildLog) (c : ChildLog) (e : Event) → IsIndexed told children → ((other : ℕ) → names other e ≡ nat_eq other (length children)) → (other : ℕ) → other < length (children ++ c ∷ []) → is_named other (e ∷ told) ≡ true
+new_known told children c e i named other below =
+    let longer = length-append children (c ∷ []) in
+    elim (eqb_tells other (length children)) [
+      | inl same ↦ rw (named other) (rw same.0 refl)
+      | inr differ ↦ (let older : other < length children = before differ.1 longer in rw (i.known other older, or-true) refl)
+    ]
+  where
+    before : (other ≡ length children → ⊥) → length (children ++ c ∷ []) ≡ length children + 1 → other < length children
+    before differ longer = elim (cases_lt other (length children)) [
+      | inl less ↦ less
+      | inr least ↦ absurd (differ (omega arith))
     ]
 
 -- the new child is armed
@@ -77,6 +97,7 @@ indexed_armed told children arming i = record {
     | inr miss ↦ i.refusals other ∙ sym (ap (λ (e : ChildLog). e.refused) (away other miss.0))
   ];
   names = new_named told children c (events.Armed (length children) arming) i (λ _. refl);
+  known = new_known told children c (events.Armed (length children) arming) i (λ _. refl);
 }
   where
     c : ChildLog
@@ -111,6 +132,7 @@ indexed_started told children order i = record {
     | inr miss ↦ i.refusals other ∙ sym (ap (λ (e : ChildLog). e.refused) (away other miss.0))
   ];
   names = new_named told children c (events.Started (length children) order) i (λ _. refl);
+  known = new_known told children c (events.Started (length children) order) i (λ _. refl);
 }
   where
     c : ChildLog
@@ -125,15 +147,29 @@ indexed_started told children order i = record {
     past : (other : ℕ) → other ≡ length children → entry children other ≡ blank
     past other is = get_or_past children other blank (omega arith)
 
-pub armed_index : (told now : List Event) (children after : List ChildLog) (watches later : List ℕ) (child : ℕ) (arming kept : Arming) → IsIndexed (reverse told) children → length watches ≡ length children → now ≡ told ++ events.Armed child arming ∷ [] → child ≡ length children → kept ≡ arming → after ≡ children ++ (record blank { armed = Some kept }) ∷ [] → later ≡ watches ++ 0 ∷ [] → IsIndexed (reverse now) after × length later ≡ length after
-armed_index told now children after watches later child arming kept i same tells number copied grows counted =
+grow : {X : Type 0} (now xs : List X) (children after : List ChildLog) (x : X) (c : ChildLog) → now ≡ xs ++ x ∷ [] → after ≡ children ++ c ∷ [] → length xs ≡ length children → length now ≡ length after
+grow now xs children after x c longer grows same =
+    let ones = length-append xs (x ∷ []) in
+    let others = length-append children (c ∷ []) in
+    rw (longer, grows) (omega (arith, ones, others, same))
+
+pub armed_index : (told now : List Event) (children after : List ChildLog) (watches later : List ℕ) (killed marks : List Bool) (child : ℕ) (arming kept : Arming) → IsWhole (reverse told) children killed watches → now ≡ told ++ events.Armed child arming ∷ [] → child ≡ length children → kept ≡ arming → after ≡ children ++ (record blank { armed = Some kept }) ∷ [] → marks ≡ killed ++ false ∷ [] → later ≡ watches ++ 0 ∷ [] → IsWhole (reverse now) after marks later
+armed_index told now children after watches later killed marks child arming kept i tells number copied grows marked counted =
     let index : IsIndexed (events.Armed child arming ∷ reverse told) (children ++ (record blank { armed = Some kept }) ∷ []) =
     subst (λ (n : ℕ). IsIndexed (events.Armed n arming ∷ reverse told) (children ++ (record blank { armed = Some kept }) ∷ [])) (sym number)
-    (subst (λ (a : Arming). IsIndexed (events.Armed (length children) arming ∷ reverse told) (children ++ (record blank { armed = Some a }) ∷ [])) (sym copied) (indexed_armed (reverse told) children arming i)) in
-    (rw (tells, reverse-append, grows) index, rw (counted, grows, length-append, length-append) (omega arith))
+    (subst (λ (a : Arming). IsIndexed (events.Armed (length children) arming ∷ reverse told) (children ++ (record blank { armed = Some a }) ∷ [])) (sym copied) (indexed_armed (reverse told) children arming i.index)) in
+    record {
+      index = rw (tells, reverse-append, grows) index;
+      marked = grow marks killed children after false _ marked grows i.marked;
+      watched = grow later watches children after 0 _ counted grows i.watched;
+    }
 
-pub started_index : (told now : List Event) (children after : List ChildLog) (watches later : List ℕ) (child : ℕ) (order : Order) → IsIndexed (reverse told) children → length watches ≡ length children → now ≡ told ++ events.Started child order ∷ [] → child ≡ length children → after ≡ children ++ (record blank { started = true }) ∷ [] → later ≡ watches ++ 0 ∷ [] → IsIndexed (reverse now) after × length later ≡ length after
-started_index told now children after watches later child order i same tells number grows counted =
+pub started_index : (told now : List Event) (children after : List ChildLog) (watches later : List ℕ) (killed marks : List Bool) (child : ℕ) (order : Order) → IsWhole (reverse told) children killed watches → now ≡ told ++ events.Started child order ∷ [] → child ≡ length children → after ≡ children ++ (record blank { started = true }) ∷ [] → marks ≡ killed ++ false ∷ [] → later ≡ watches ++ 0 ∷ [] → IsWhole (reverse now) after marks later
+started_index told now children after watches later killed marks child order i tells number grows marked counted =
     let index : IsIndexed (events.Started child order ∷ reverse told) (children ++ (record blank { started = true }) ∷ []) =
-    subst (λ (n : ℕ). IsIndexed (events.Started n order ∷ reverse told) (children ++ (record blank { started = true }) ∷ [])) (sym number) (indexed_started (reverse told) children order i) in
-    (rw (tells, reverse-append, grows) index, rw (counted, grows, length-append, length-append) (omega arith))
+    subst (λ (n : ℕ). IsIndexed (events.Started n order ∷ reverse told) (children ++ (record blank { started = true }) ∷ [])) (sym number) (indexed_started (reverse told) children order i.index) in
+    record {
+      index = rw (tells, reverse-append, grows) index;
+      marked = grow marks killed children after false _ marked grows i.marked;
+      watched = grow later watches children after 0 _ counted grows i.watched;
+    }

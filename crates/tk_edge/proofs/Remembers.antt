@@ -46,10 +46,10 @@ ended_told child exit old new o a watch armed is told =
     let here : TellsTurn child a old new watch = subst (TellsTurn child a old new) (sym is) turn in
     subst (λ (p : Option Arming). TellsArmedTurn child old new p watch) (sym armed) here
 
-pub file_rest : (h new : List Event) (path other put bytes : List ℕ) → new ≡ events.Put put bytes true ∷ h → put ≡ path → (other ≡ path → ⊥) → file_of other new ≡ file_of other h
-file_rest h new path other put bytes told same differ =
+pub file_rest : (old h new : List Event) (path other put bytes : List ℕ) → h ≡ old → new ≡ events.Put put bytes true ∷ h → put ≡ path → (other ≡ path → ⊥) → file_of other new ≡ file_of other old
+file_rest old h new path other put bytes before told same differ =
     let there : (other ≡ put → ⊥) = λ is. differ (is ∙ same) in
-    rw told (file_other other put bytes h there)
+    rw (told, ← before) (file_other other put bytes h there)
 
 pub file_here : (h new : List Event) (path put text bytes : List ℕ) → new ≡ events.Put put text true ∷ h → put ≡ path → text ≡ bytes → file_of path new ≡ Some bytes
 file_here h new path put text bytes told same whole =

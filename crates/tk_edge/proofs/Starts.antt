@@ -1,10 +1,10 @@
 -- When a host in memory starts an entry, and which files its turn leaves.
-use Rattle.std.proofs.Common.{◌≡◌, ◌≢◌, ℕ, List, [], ◌∷◌, ◌++◌, take, drop, length, Bool, true, false, refl, sym, ◌∙◌, ap, subst, inl, inr}
-use Rattle.std.specs.Prelude.{zero, suc, ◌<◌, bytes_eq, nat_eq, slice_index_or, replicate, ◌||◌, ◌&&◌, ◌↔◌, IsTrue, Option, Some, None, is_some}
+use Rattle.std.proofs.Common.{◌≡◌, ℕ, List, [], ◌∷◌, ◌++◌, take, drop, length, Bool, true, false, refl, sym, ◌∙◌, ap, subst, inl, inr}
+use Rattle.std.specs.Prelude.{bytes_eq, nat_eq, ◌||◌, ◌&&◌, ◌↔◌, IsTrue, Option, Some, None, is_some}
 use Rattle.std.specs.Cmp.{both_ways}
 use Rattle.std.proofs.Math.Bool.{or-true}
 use Rattle.std.proofs.lemmas.Bool.{cases_Bool, eqb-true}
-use Rattle.std.proofs.lemmas.List.{append_cancel_left, take-append-drop, get_or-replicate}
+use Rattle.std.proofs.lemmas.List.{append_cancel_left, take-append-drop}
 use Rattle.std.proofs.Math.Seq.{take-append_seam}
 use Rattle.std.proofs.lemmas.Slice.Eq.{bytes_eq-Decides}
 use Rattle.tk_pod.specs.Exits.{passes}
@@ -17,13 +17,13 @@ use Rattle.tk_edge.specs.History.{Has, HasPassed, MayStart, arming_of, exit_of, 
 use Rattle.tk_edge.specs.Markers.{Stands, FollowsMarkers}
 use Rattle.tk_edge.specs.Memory.{file_of, leaves, post_of, has_passed_with, child_passed, some_passed}
 
-both : (a b : Bool) → (a && b) ≡ true → (a ≡ true) × (b ≡ true)
+pub both : (a b : Bool) → (a && b) ≡ true → (a ≡ true) × (b ≡ true)
 both true b is = (refl, is)
 both false b is = cc
 
 -- an entry that passed, and that it is found
 
-child_has : (pod path : List ℕ) (h : List Event) (child : ℕ) (a : Option Arming) (x : Option ℕ) → arming_of child h ≡ a → exit_of child h ≡ x → has_passed_with pod path a x ≡ true → HasPassed pod path h
+pub child_has : (pod path : List ℕ) (h : List Event) (child : ℕ) (a : Option Arming) (x : Option ℕ) → arming_of child h ≡ a → exit_of child h ≡ x → has_passed_with pod path a x ≡ true → HasPassed pod path h
 child_has pod path h child (Some a) (Some exit) armed exited is =
     let first = both (bytes_eq a.order.pod pod && bytes_eq a.post path) (passes a.keep_going exit) is in
     let names = both (bytes_eq a.order.pod pod) (bytes_eq a.post path) first.0 in
@@ -40,7 +40,7 @@ child_has pod path h child (Some a) (Some exit) armed exited is =
 child_has pod path h child (Some a) None armed exited is = cc
 child_has pod path h child None x armed exited is = cc
 
-some_has : (pod path : List ℕ) (whole h : List Event) → some_passed pod path whole h ≡ true → HasPassed pod path whole
+pub some_has : (pod path : List ℕ) (whole h : List Event) → some_passed pod path whole h ≡ true → HasPassed pod path whole
 some_has pod path whole [] is = cc
 some_has pod path whole (events.Armed child arming ∷ older) is = elim (cases_Bool (child_passed pod path whole child)) [
   | inl hit ↦ child_has pod path whole child (arming_of child whole) (exit_of child whole) refl refl hit
@@ -60,7 +60,7 @@ some_found pod path whole (events.Armed other arming ∷ older) child a armed pa
 ]
 some_found pod path whole (_ ∷ older) child a armed passed = some_found pod path whole older child a armed passed
 
-passed_found : (pod path : List ℕ) (h : List Event) → HasPassed pod path h → some_passed pod path h h ≡ true
+pub passed_found : (pod path : List ℕ) (h : List Event) → HasPassed pod path h → some_passed pod path h h ≡ true
 passed_found pod path h p =
     let pods : bytes_eq p.arming.order.pod pod ≡ true = (bytes_eq-Decides p.arming.order.pod pod).1 p.same_pod in
     let posts : bytes_eq p.arming.post path ≡ true = (bytes_eq-Decides p.arming.post path).1 p.post in
@@ -119,7 +119,7 @@ leaves_file path (Some exit) a is = elim (cases_Bool (passes a.keep_going exit))
 ]
 leaves_file path None a is = inr (inr ((bytes_eq-Decides path (broken a.post)).0 is))
 
-leaves_own : (path : List ℕ) (exit : Option ℕ) (o : Option Arming) → leaves path exit o ≡ true → Has o (λ arming. IsWatchFile arming path)
+pub leaves_own : (path : List ℕ) (exit : Option ℕ) (o : Option Arming) → leaves path exit o ≡ true → Has o (λ arming. IsWatchFile arming path)
 leaves_own path exit (Some a) is = record { it = a; is = refl; has = leaves_file path exit a is }
 leaves_own path exit None is = cc
 
@@ -156,13 +156,3 @@ no_tail path post end differ = elim (cases_Bool (bytes_eq path (post ++ end))) [
       cc
   | inr miss ↦ sym miss
 ]
-
--- a list of one element, again and again
-
-pub same_element : {X : Type 0} (n child : ℕ) (x other : X) → child < n → slice_index_or (replicate n x) child other ≡ x
-same_element n child x other below = get_or-replicate n child x other below
-
-pub all_same : {X : Type 0} (n child : ℕ) (x : X) → slice_index_or (replicate n x) child x ≡ x
-all_same zero child x = refl
-all_same (suc n) zero x = refl
-all_same (suc n) (suc child) x = all_same n child x

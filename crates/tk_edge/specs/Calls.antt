@@ -1,5 +1,5 @@
 -- What each call of a host adds to its history, by its answer.
-use Rattle.std.specs.Prelude.{◌≡◌, ◌⊎◌, ℕ, Bool, true, false, List, ◌∷◌, Option, Some, None, Result, MatchResult}
+use Rattle.std.specs.Prelude.{◌≡◌, ◌⊎◌, ℕ, Bool, true, false, ◌&&◌, ◌||◌, nat_eq, List, ◌∷◌, Option, Some, None, Result, MatchResult}
 use Rattle.tk_pod.specs.Exits.{passes}
 use Rattle.tk_edge.specs.declared.miss.Miss.{Miss}
 use Rattle.tk_edge.specs.declared.miss.Miss.TheVariants as misses
@@ -12,6 +12,7 @@ use Rattle.tk_edge.specs.declared.event.Event.{Event}
 use Rattle.tk_edge.specs.declared.event.Event.TheVariants as events
 use Rattle.tk_edge.specs.declared.event.Arming.{Arming}
 use Rattle.tk_edge.specs.History.{IsNew, exit_of, arming_of, is_refused, StillWaits, StillRuns, MayStart}
+use Rattle.tk_edge.specs.Memory.{is_named}
 
 -- the call is told as answered or as failed; want of memory adds nothing
 abbrev pub TellsMiss : Event → List Event → List Event → Miss → Type 0
@@ -47,6 +48,10 @@ TellsPolled child old new (polls.Exited exit) = TellsExit child exit old new
 abbrev pub TellsPoll : ℕ → List Event → List Event → Result Poll Miss → Type 0
 TellsPoll child old new result = MatchResult result (TellsPolled child old new) (λ _. new ≡ old)
 
+-- that a child was refused is told once
+abbrev pub TellsRefusal : ℕ → List Event → List Event → Type 0
+TellsRefusal child old new = (StillWaits child old × (new ≡ events.Refused child ∷ old)) ⊎ ((is_refused child old ≡ true) × (new ≡ old))
+
 -- one turn of an armed entry
 abbrev pub TellsTurn : ℕ → Arming → List Event → List Event → Watch → Type 0
 TellsTurn child arming old new watches.Waits = StillWaits child old × (new ≡ old)
@@ -54,7 +59,7 @@ TellsTurn child arming old new watches.Started = StillWaits child old × MayStar
 TellsTurn child arming old new watches.Runs = StillRuns child old × (new ≡ old)
 TellsTurn child arming old new (watches.Passed exit) = (passes arming.keep_going exit ≡ true) × TellsExit child exit old new
 TellsTurn child arming old new (watches.Broke (Some exit)) = (passes arming.keep_going exit ≡ false) × TellsExit child exit old new
-TellsTurn child arming old new (watches.Broke None) = (StillWaits child old × (new ≡ events.Refused child ∷ old)) ⊎ ((is_refused child old ≡ true) × (new ≡ old))
+TellsTurn child arming old new (watches.Broke None) = TellsRefusal child old new
 
 -- the same, of what the child was armed with
 abbrev pub TellsArmedTurn : ℕ → List Event → List Event → Option Arming → Watch → Type 0
@@ -68,3 +73,7 @@ TellsWatch child old new result = MatchResult result (TellsArmedTurn child old n
 -- what a fetch tells
 abbrev pub TellsFetch : List ℕ → List Event → List Event → Result (Option (List ℕ)) Miss → Type 0
 TellsFetch path old new result = MatchResult result (λ bytes. new ≡ events.Fetched path bytes ∷ old) (λ _. new ≡ old)
+
+-- a kill marks the child where the history names it, and no other number
+abbrev pub MarksKilled : ℕ → List Event → (ℕ → Bool) → (ℕ → Bool) → Type 0
+MarksKilled child told old new = (other : ℕ) → new other ≡ (nat_eq other child && is_named child told || old other)

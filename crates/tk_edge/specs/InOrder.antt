@@ -54,7 +54,13 @@ IsSettled killed child history = Has (exit_of child history) (λ _. Unit {0}) �
 
 -- each started child of a pod that is over is settled
 abbrev pub AreOverSettled : (ℕ → Bool) → Pods → List Event → Type 0
-AreOverSettled killed pods history = (child : ℕ) (order : Order) → order_of child history ≡ Some order → Has (pods order.pod) (λ claimed. claimed.is_over ≡ true) → IsSettled killed child history
+AreOverSettled killed pods history =
+    (child : ℕ) (order : Order) → order_of child history ≡ Some order →
+    Has (pods order.pod) (λ claimed. claimed.is_over ≡ true) → IsSettled killed child history
+
+-- the child was armed or started
+abbrev pub IsGiven : ℕ → List Event → Type 0
+IsGiven child history = Has (arming_of child history) (λ _. Unit {0}) ⊎ Has (order_of child history) (λ _. Unit {0})
 
 pub record IsInOrder (killed : ℕ → Bool) (pods : Pods) (history : List Event) : Type 0 where
   pub due : AreStartsDue pods history
@@ -90,7 +96,15 @@ AreStartsArmed (_ ∷ older) = AreStartsArmed older
 
 -- a step is armed at most once
 abbrev pub IsArmedOnce : List Event → Type 0
-IsArmedOnce history = (c d : ℕ) (a b : Arming) → arming_of c history ≡ Some a → arming_of d history ≡ Some b → a.order.pod ≡ b.order.pod → a.order.step ≡ b.order.step → c ≡ d
+IsArmedOnce history =
+    (c d : ℕ) (a b : Arming) → arming_of c history ≡ Some a → arming_of d history ≡ Some b →
+    a.order.pod ≡ b.order.pod → a.order.step ≡ b.order.step → c ≡ d
+
+-- no child is armed with the order's step
+abbrev pub IsUnarmed : Order → List Event → Type 0
+IsUnarmed order history =
+    (child : ℕ) (other : Arming) → arming_of child history ≡ Some other → other.order.pod ≡ order.pod →
+    other.order.step ≡ order.step → ⊥
 
 pub record IsArmedRight (layout : Layout) (pods : Pods) (history : List Event) : Type 0 where
   pub starts : AreStartsArmed history
@@ -107,4 +121,6 @@ pub record IsKept (layout : Layout) (killed : ℕ → Bool) (pods : Pods) (histo
 
 -- claimed pods stay claimed, with their plans; more may be claimed, and some may end
 abbrev pub PodsGrow : Pods → Pods → Type 0
-PodsGrow pods later = (name : List ℕ) (claimed : Claimed) → pods name ≡ Some claimed → (now : Claimed) × (later name ≡ Some now) × (now.orders ≡ claimed.orders) × (now.keep ≡ claimed.keep)
+PodsGrow pods later =
+    (name : List ℕ) (claimed : Claimed) → pods name ≡ Some claimed →
+    (now : Claimed) × (later name ≡ Some now) × (now.orders ≡ claimed.orders) × (now.keep ≡ claimed.keep)

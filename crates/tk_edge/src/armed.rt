@@ -1,8 +1,9 @@
-ghost use Rattle.std.specs.Prelude.{◌≡◌, ℕ, List, ◌∷◌, [], Option, Some, None, OnOk, OnErr, false, if◌then◌else◌};
-ghost use Rattle.tk_edge.specs.History.{started_orders};
+ghost use Rattle.std.specs.Prelude.{◌≡◌, ◌⊎◌, ℕ, List, ◌∷◌, [], Option, Some, None, OnOk, OnErr, IfOk, true, false, if◌then◌else◌};
+ghost use Rattle.tk_edge.specs.declared.event.Event.TheVariants.{Put};
 ghost use Rattle.tk_edge.specs.Causes.{Counts};
-ghost use Rattle.tk_edge.specs.Armed.{TurnGives, Looks, is_over, Posts};
-ghost use Rattle.tk_edge.specs.Files.{broken as broken_of};
+ghost use Rattle.tk_edge.specs.Armed.{TurnGives, FindsPoll, Looks, is_over, noted, Posts, MissesPut, MissesNote, MissesPosts, IsPostFile, IsTurnFile};
+ghost use Rattle.tk_edge.specs.Files.{MayChange, broken as broken_of};
+ghost use Rattle.tk_edge.specs.Markers.{IsPolledFile};
 
 use crate::host::Host;
 use crate::miss::Miss;
@@ -26,8 +27,12 @@ pub struct Armed {
 
 /// One turn of an entrypoint. It looks for its wait file with `.err` and then for the wait file, and starts its order
 /// behind the latter; once started, it polls its child, and posts how that ended.
+#[tactic(auto, using(crate::proofs::Turns::may_same))]
 pub fn armed_turn<H: Host>(alloc: Global, host: &mut H, armed: &mut Armed) -> Result<Watch, Miss>
     ensures turn { TurnGives armed.old armed.new (H.told host.old) (H.told host.new) (H.files host.old) result }
+    ensures others { MayChange (IsTurnFile armed.old (H.told host.old)) (H.files host.old) (H.files host.new) }
+    ensures killed { H.killed host.new ≡ H.killed host.old }
+    ensures watches { H.watches host.new ≡ H.watches host.old }
     ensures count { Counts (H.faults host.old) (H.faults host.new) result }
 {
     match armed.last {
@@ -40,15 +45,18 @@ pub fn armed_turn<H: Host>(alloc: Global, host: &mut H, armed: &mut Armed) -> Re
     }
 }
 
+#[tactic(auto, using(crate::proofs::Turns::missed_before, crate::proofs::Turns::missed_refusal, crate::proofs::Turns::may_same, crate::proofs::Turns::turn_post, crate::proofs::Turns::turn_start))]
 fn first_turn<H: Host>(alloc: Global, host: &mut H, armed: &mut Armed) -> Result<Watch, Miss>
     requires { Looks armed.old }
     ensures turn { TurnGives armed.old armed.new (H.told host.old) (H.told host.new) (H.files host.old) result }
+    ensures others { MayChange (IsTurnFile armed.old (H.told host.old)) (H.files host.old) (H.files host.new) }
+    ensures killed { H.killed host.new ≡ H.killed host.old }
+    ensures watches { H.watches host.new ≡ H.watches host.old }
     ensures count { Counts (H.faults host.old) (H.faults host.new) result }
 {
     let failed = broken(alloc, armed.wait.as_str())?;
     if host.look(failed.as_str())? {
-        let post = broken(alloc, armed.post.as_str())?;
-        host.put(post.as_str(), &[])?;
+        put_post(alloc, host, armed, false)?;
         armed.last = Some(Watch::Broke { exit: None });
         return Ok(Watch::Broke { exit: None });
     }
@@ -62,6 +70,7 @@ fn first_turn<H: Host>(alloc: Global, host: &mut H, armed: &mut Armed) -> Result
     Ok(Watch::Started)
 }
 
+#[tactic(auto, using(crate::proofs::Turns::missed_before, crate::proofs::Turns::missed_behind, crate::proofs::Turns::turn_poll))]
 fn later_turn<H: Host>(
     alloc: Global,
     host: &mut H,
@@ -71,17 +80,17 @@ fn later_turn<H: Host>(
     requires not_over { is_over armed.old.last ≡ false }
     requires its_child { armed.old.child ≡ Some child }
     ensures turn { TurnGives armed.old armed.new (H.told host.old) (H.told host.new) (H.files host.old) result }
+    ensures others { MayChange (IsTurnFile armed.old (H.told host.old)) (H.files host.old) (H.files host.new) }
+    ensures killed { H.killed host.new ≡ H.killed host.old }
+    ensures watches { H.watches host.new ≡ H.watches host.old }
     ensures count { Counts (H.faults host.old) (H.faults host.new) result }
 {
-    let exit = match armed.exit {
-        Some(exit) => exit,
-        None => match host.poll(child)? {
-            Poll::Exited(exit) => exit,
-            Poll::Runs => {
-                armed.last = Some(Watch::Runs);
-                return Ok(Watch::Runs);
-            }
-        },
+    let exit = match find_exit(host, armed.exit, child)? {
+        Poll::Exited(exit) => exit,
+        Poll::Runs => {
+            armed.last = Some(Watch::Runs);
+            return Ok(Watch::Runs);
+        }
     };
     armed.exit = Some(exit);
     let passed = exit == 0 || armed.keep_going;
@@ -95,6 +104,24 @@ fn later_turn<H: Host>(
     Ok(watch)
 }
 
+// The exit that was kept, or what a poll gives now.
+#[tactic(auto, using(crate::proofs::Turns::may_same))]
+fn find_exit<H: Host>(host: &mut H, kept: Option<u8>, child: u64) -> Result<Poll, Miss>
+    ensures found { IfOk result (FindsPoll child kept (H.told host.old) (H.told host.new)) }
+    ensures missed { OnErr result (H.told host.new ≡ H.told host.old) }
+    ensures others { MayChange (IsPolledFile child (H.told host.old)) (H.files host.old) (H.files host.new) }
+    ensures killed { H.killed host.new ≡ H.killed host.old }
+    ensures watches { H.watches host.new ≡ H.watches host.old }
+    ensures count { Counts (H.faults host.old) (H.faults host.new) result }
+{
+    match kept {
+        Some(exit) => Ok(Poll::Exited(exit)),
+        None => host.poll(child),
+    }
+}
+
+// Puts the exit where it is noted, and then the post file.
+#[tactic(auto, using(crate::proofs::Turns::may_same, crate::proofs::Turns::puts_both))]
 fn post_exit<H: Host>(
     alloc: Global,
     host: &mut H,
@@ -103,17 +130,46 @@ fn post_exit<H: Host>(
     passed: bool,
 ) -> Result<(), Miss>
     ensures posted { OnOk result (Posts armed.now.note exit (if passed then armed.now.post else broken_of armed.now.post) (H.told host.old) (H.told host.new)) }
-    ensures missed { OnErr result (started_orders (H.told host.new) ≡ started_orders (H.told host.old)) }
+    ensures missed { OnErr result (MissesPosts armed.now.note exit (if passed then armed.now.post else broken_of armed.now.post) (H.told host.old) (H.told host.new)) }
+    ensures others { MayChange (λ path. IsPostFile armed.now path ⊎ (armed.now.note ≡ Some path)) (H.files host.old) (H.files host.new) }
+    ensures killed { H.killed host.new ≡ H.killed host.old }
+    ensures watches { H.watches host.new ≡ H.watches host.old }
     ensures count { Counts (H.faults host.old) (H.faults host.new) result }
 {
-    if let Some(note) = &armed.note {
-        let text = format!(in alloc; "{exit}\n")?;
-        host.put(note.as_str(), text.as_bytes())?;
-    }
+    put_note(alloc, host, &armed.note, exit)?;
+    put_post(alloc, host, armed, passed)
+}
+
+// Puts the exit where it is noted.
+#[tactic(auto, using(crate::proofs::Turns::put_missed, crate::proofs::Turns::may_same, crate::proofs::Turns::puts_one))]
+fn put_note<H: Host>(alloc: Global, host: &mut H, note: &Option<Text>, exit: u8) -> Result<(), Miss>
+    ensures put { OnOk result (H.told host.new ≡ noted note.now exit (H.told host.old)) }
+    ensures missed { OnErr result (MissesNote note.now exit (H.told host.old) (H.told host.new)) }
+    ensures others { MayChange (λ path. note.now ≡ Some path) (H.files host.old) (H.files host.new) }
+    ensures killed { H.killed host.new ≡ H.killed host.old }
+    ensures watches { H.watches host.new ≡ H.watches host.old }
+    ensures count { Counts (H.faults host.old) (H.faults host.new) result }
+{
+    let Some(note) = note else {
+        return Ok(());
+    };
+    let text = format!(in alloc; "{exit}\n")?;
+    host.put(note.as_str(), text.as_bytes())
+}
+
+// Puts the post file, with `.err` where the step doesn't pass.
+#[tactic(auto, using(crate::proofs::Turns::put_missed, crate::proofs::Turns::may_same, crate::proofs::Turns::puts_one))]
+fn put_post<H: Host>(alloc: Global, host: &mut H, armed: &Armed, passed: bool) -> Result<(), Miss>
+    ensures put { OnOk result (H.told host.new ≡ Put (if passed then armed.now.post else broken_of armed.now.post) [] true ∷ H.told host.old) }
+    ensures missed { OnErr result (MissesPut (if passed then armed.now.post else broken_of armed.now.post) [] (H.told host.old) (H.told host.new)) }
+    ensures others { MayChange (IsPostFile armed.now) (H.files host.old) (H.files host.new) }
+    ensures killed { H.killed host.new ≡ H.killed host.old }
+    ensures watches { H.watches host.new ≡ H.watches host.old }
+    ensures count { Counts (H.faults host.old) (H.faults host.new) result }
+{
     if passed {
-        host.put(armed.post.as_str(), &[])
-    } else {
-        let post = broken(alloc, armed.post.as_str())?;
-        host.put(post.as_str(), &[])
+        return host.put(armed.post.as_str(), &[]);
     }
+    let post = broken(alloc, armed.post.as_str())?;
+    host.put(post.as_str(), &[])
 }

@@ -3,51 +3,47 @@ ghost use Rattle.tk_edge.specs.History.{Has, IsNew, HasPassed, MayStart, exit_of
 ghost use Rattle.std.specs.Option.{is_some};
 ghost use Rattle.tk_edge.specs.declared.miss.Miss.TheVariants.{Memory};
 ghost use Rattle.tk_edge.specs.declared.event.Event.TheVariants.{Exited};
-ghost use Rattle.tk_edge.specs.Calls.{TellsExit, TellsWatch};
+ghost use Rattle.tk_edge.specs.Calls.{TellsExit, TellsWatch, arming_with};
+ghost use Rattle.tk_edge.specs.HostLog.{counts, flags};
 ghost use Rattle.tk_edge.specs.declared.order.Watch.TheVariants as shown;
 ghost use Rattle.tk_edge.specs.declared.event.Event.{Event as AnEvent};
 ghost use Rattle.tk_pod.specs.Exits.{passes as has_passed};
 ghost use Rattle.tk_edge.specs.Files.{is_under, MayChange};
 ghost use Rattle.tk_edge.specs.Causes.{Counts, CountsWatch};
-ghost use Rattle.tk_edge.specs.Memory.{file_of, files_of, is_named, ended_watch, leaves, child_passed, some_passed, HasEnded};
+ghost use Rattle.tk_edge.specs.Memory.{file_of, files_of, ended_watch, leaves, child_passed, some_passed, HasEnded};
 ghost use Rattle.tk_edge.specs.Markers.{Stands, FollowsMarkers, IsFileOf};
 
 use crate::event::{Arming, Event};
 use crate::host::Host;
+use crate::host_log::HostLog;
 use crate::miss::{Failed, Miss};
 use crate::order::{Order, Poll, Watch};
-use crate::texts::{broken, bytes_of, is_broken};
-use std::alloc::Global;
+use crate::texts::{broken, bytes_of, is_broken, is_under};
+use std::alloc::{AllocError, Global};
 use tk_types::{Bytes, Text, TryCopy};
 
 /// A host in memory that never fails: its count of faults is always 0, so no call answers `Miss::Failed`. Its files are
 /// those that its history leaves. Each child ends at its first poll or at the first watch behind its start, with one
-/// exit for all. It gives 64 numbers, from 0 on, and then answers `Miss::Memory`; higher ones count as killed.
+/// exit for all.
 #[derive(Drop)]
 pub struct CleanHost {
     alloc: Global,
-    events: Vec<Event>,
-    next: u64,
+    log: HostLog,
     exit: u8,
-    killed: [bool; 64],
-    watches: [u64; 64],
 }
 
 impl CleanHost {
     /// A host that did nothing, each child of which is to end with this exit.
     pub fn new(alloc: Global, exit: u8) -> Self
         ensures told { ⟦<CleanHost as Host>⟧.told result ≡ [] }
-        ensures alive { (child : ℕ) → child < 64 → ⟦<CleanHost as Host>⟧.killed result child ≡ false }
+        ensures killed { (child : ℕ) → ⟦<CleanHost as Host>⟧.killed result child ≡ false }
         ensures watches { (child : ℕ) → ⟦<CleanHost as Host>⟧.watches result child ≡ 0 }
         ensures faults { ⟦<CleanHost as Host>⟧.faults result ≡ 0 }
     {
         CleanHost {
             alloc,
-            events: Vec::new(alloc),
-            next: 0,
+            log: HostLog::new(alloc),
             exit,
-            killed: [false; 64],
-            watches: [0; 64],
         }
     }
 }
@@ -69,27 +65,6 @@ fn exit_in(events: &[Event], child: u64) -> Option<u8>
     let mut found = None;
     for event in events {
         found = exit_after(event, child, found);
-    }
-    found
-}
-
-/// Whether the child was started once this event came, too.
-fn started_after(event: &Event, child: u64, found: bool) -> bool
-    ensures { (older : List AnEvent) → is_some (order_of child older) ≡ found → is_some (order_of child (event.now ∷ older)) ≡ result }
-{
-    match event {
-        Event::Started { child: other, .. } if child == *other => true,
-        _ => found,
-    }
-}
-
-/// Whether the child was started.
-fn started_in(events: &[Event], child: u64) -> bool
-    ensures { result ≡ is_some (order_of child (reverse events.now)) }
-{
-    let mut found = false;
-    for event in events {
-        found = started_after(event, child, found);
     }
     found
 }
@@ -136,12 +111,7 @@ fn file_after<'a>(
 fn is_below(folder: &Text, path: &str) -> bool
     ensures { result ≡ is_under folder.now path.now }
 {
-    let folder = folder.as_str().as_bytes();
-    let path = path.as_bytes();
-    match path.get(folder.len()) {
-        Some(byte) => *byte == b'/' && path.starts_with(folder),
-        None => false,
-    }
+    is_under(folder.as_str(), path)
 }
 
 /// The bytes of the file at a path.
@@ -151,51 +121,6 @@ fn file_in<'a>(events: &'a [Event], path: &str) -> Option<&'a [u8]>
     let mut found = None;
     for index in 0..events.len() {
         found = file_after(&events[..index], &events[index], path, found);
-    }
-    found
-}
-
-/// Whether an event names the child, this one too.
-fn named_after(event: &Event, child: u64, found: bool) -> bool
-    ensures { (older : List AnEvent) → is_named child older ≡ found → is_named child (event.now ∷ older) ≡ result }
-{
-    match event {
-        Event::Armed { child: other, .. }
-        | Event::Started { child: other, .. }
-        | Event::Refused { child: other }
-        | Event::Exited { child: other, .. } => child == *other || found,
-        _ => found,
-    }
-}
-
-/// Whether an event names the child.
-fn named_in(events: &[Event], child: u64) -> bool
-    ensures { result ≡ is_named child (reverse events.now) }
-{
-    let mut found = false;
-    for event in events {
-        found = named_after(event, child, found);
-    }
-    found
-}
-
-/// Whether the child was refused once this event came, too.
-fn refused_after(event: &Event, child: u64, found: bool) -> bool
-    ensures { (older : List AnEvent) → is_refused child older ≡ found → is_refused child (event.now ∷ older) ≡ result }
-{
-    match event {
-        Event::Refused { child: other } => child == *other || found,
-        _ => found,
-    }
-}
-
-/// Whether the child was refused.
-fn refused_in(events: &[Event], child: u64) -> bool
-    ensures { is_refused child (reverse events.now) ≡ result }
-{
-    let mut found = false;
-    for event in events {
-        found = refused_after(event, child, found);
     }
     found
 }
@@ -254,7 +179,7 @@ fn arming_in<'a>(events: &'a [Event], child: u64) -> Option<&'a Arming>
 }
 
 /// Whether a step passes with this exit.
-pub(crate) fn passes(keep_going: bool, exit: u8) -> bool
+pub fn passes(keep_going: bool, exit: u8) -> bool
     ensures { result ≡ has_passed keep_going exit }
 {
     exit == 0 || keep_going
@@ -318,55 +243,41 @@ fn is_ready(events: &[Event], arming: &Arming) -> bool
 }
 
 impl CleanHost {
-    /// Tells one more event.
-    fn remember(&mut self, event: Event) -> Result<(), Miss>
-        ensures told { OnOk result (reverse self.new.events.items ≡ event ∷ reverse self.old.events.items) }
-        ensures same { OnErr result (self.new.events.items ≡ self.old.events.items) }
-        ensures killed { self.new.killed ≡ self.old.killed }
-        ensures watches { self.new.watches ≡ self.old.watches }
-        ensures memory { OnErr result (result ≡ Err Memory) }
+    /// Whether a file stands at this path.
+    fn stands(&self, path: &str) -> bool
+        ensures { IsTrue result ↔ Stands path.now (files_of self.now.log.told) }
     {
-        self.events.push(event)?;
-        Ok(())
+        stands(self.log.events(), path)
     }
 
-    /// A number that no event names; there are 64.
-    #[tactic(auto, using(crate::proofs::Remembers::unnamed_new))]
-    fn fresh(&mut self) -> Result<u64, Miss>
-        ensures number { IfOk result (λ child. IsNew child (reverse self.old.events.items)) }
-        ensures alive { IfOk result (λ child. slice_index_or self.old.killed child true ≡ false) }
-        ensures events { self.new.events.items ≡ self.old.events.items }
-        ensures killed { self.new.killed ≡ self.old.killed }
-        ensures watches { self.new.watches ≡ self.old.watches }
-        ensures memory { OnErr result (result ≡ Err Memory) }
+    /// Whether the entry's wait file stands, and it may start.
+    fn is_ready(&self, arming: &Arming) -> bool
+        ensures { IsTrue result ↔ (Stands arming.now.wait (files_of self.now.log.told) × MayStart arming.now self.now.log.told) }
     {
-        let child = self.next;
-        if child >= 64 || self.killed[child as usize] || named_in(&self.events, child) {
-            return Err(Miss::Memory);
-        }
-        self.next = child + 1;
-        Ok(child)
+        is_ready(self.log.events(), arming)
     }
 
     /// The child ends, and that is told.
     #[tactic(auto, using(crate::proofs::Remembers::first_exit))]
     fn end(&mut self, child: u64) -> Result<u8, Miss>
-        requires started { is_some (order_of child (reverse self.old.events.items)) ≡ true }
-        requires no_exit { exit_of child (reverse self.old.events.items) ≡ None }
-        ensures told { IfOk result (λ exit. TellsExit child exit (reverse self.old.events.items) (reverse self.new.events.items)) }
-        ensures same { OnErr result (self.new.events.items ≡ self.old.events.items) }
-        ensures killed { self.new.killed ≡ self.old.killed }
-        ensures watches { self.new.watches ≡ self.old.watches }
+        requires started { is_some (order_of child self.old.log.told) ≡ true }
+        requires no_exit { exit_of child self.old.log.told ≡ None }
+        requires known { child < self.old.log.count }
+        ensures told { IfOk result (λ exit. TellsExit child exit self.old.log.told self.new.log.told) }
+        ensures same { OnErr result (self.new.log.told ≡ self.old.log.told) }
+        ensures killed { self.new.log.killed ≡ self.old.log.killed }
+        ensures watches { self.new.log.watches ≡ self.old.log.watches }
+        ensures children { self.new.log.count ≡ self.old.log.count }
         ensures memory { OnErr result (result ≡ Err Memory) }
     {
-        let exit = self.exit;
-        self.remember(Event::Exited { child, exit })?;
-        Ok(exit)
+        self.log.make_room()?;
+        self.log.exited(child, self.exit);
+        Ok(self.exit)
     }
 }
 
 /// The answer of a watch whose child has this exit.
-pub(crate) fn ended(keep_going: bool, exit: u8) -> Watch
+pub fn ended(keep_going: bool, exit: u8) -> Watch
     ensures exact { result ≡ ended_watch keep_going exit }
     ensures ends { HasEnded result }
 {
@@ -381,105 +292,99 @@ impl CleanHost {
     /// One turn of the armed entry, not counted.
     #[tactic(auto, using(crate::proofs::Remembers::ended_told, crate::proofs::Starts::waits_fit, crate::proofs::Starts::starts_fit, crate::proofs::Starts::refused_fit))]
     fn watch_once(&mut self, child: u64) -> Result<Watch, Miss>
-        requires { Has (arming_of child (reverse self.old.events.items)) (λ _. Unit {0}) }
-        ensures told { TellsWatch child (reverse self.old.events.items) (reverse self.new.events.items) result }
-        ensures alive { IfOk result (λ watch. watch ≡ shown.Started → slice_index_or self.old.killed child true ≡ false) }
-        ensures markers { IfOk result (FollowsMarkers child (slice_index_or self.old.killed child true) (reverse self.old.events.items) (Some (files_of (reverse self.old.events.items)))) }
-        ensures ends { IfOk result (λ watch. is_some (order_of child (reverse self.old.events.items)) ≡ true → HasEnded watch) }
-        ensures others { MayChange (IsFileOf child (reverse self.old.events.items)) (Some (files_of (reverse self.old.events.items))) (Some (files_of (reverse self.new.events.items))) }
-        ensures killed { self.new.killed ≡ self.old.killed }
-        ensures watches { self.new.watches ≡ self.old.watches }
+        requires { Has (arming_of child self.old.log.told) (λ _. Unit {0}) }
+        ensures told { TellsWatch child self.old.log.told self.new.log.told result }
+        ensures alive { IfOk result (λ watch. watch ≡ shown.Started → flags self.old.log.killed child ≡ false) }
+        ensures markers { IfOk result (FollowsMarkers child (flags self.old.log.killed child) self.old.log.told (Some (files_of self.old.log.told))) }
+        ensures ends { IfOk result (λ watch. is_some (order_of child self.old.log.told) ≡ true → HasEnded watch) }
+        ensures others { MayChange (IsFileOf child self.old.log.told) (Some (files_of self.old.log.told)) (Some (files_of self.new.log.told)) }
+        ensures killed { self.new.log.killed ≡ self.old.log.killed }
+        ensures watches { self.new.log.watches ≡ self.old.log.watches }
+        ensures known { child < self.new.log.count }
         ensures memory { OnErr result (result ≡ Err Memory) }
     {
-        let exit = exit_in(&self.events, child);
-        let started = started_in(&self.events, child);
-        let refused = refused_in(&self.events, child);
-        let arming = match arming_in(&self.events, child) {
-            Some(arming) => arming,
-            None => return Err(Miss::Memory),
+        let Some(arming) = self.log.arming(child) else {
+            return Err(Miss::Memory);
         };
         let keep_going = arming.keep_going;
-        if let Some(exit) = exit {
+        if let Some(exit) = self.log.exit(child) {
             return Ok(ended(keep_going, exit));
         }
-        if started {
+        if self.log.has_started(child) {
             return Ok(ended(keep_going, self.end(child)?));
         }
-        if refused {
+        if self.log.is_refused(child) {
             return Ok(Watch::Broke { exit: None });
         }
-        if child >= 64 || self.killed[child as usize] {
+        if self.log.is_killed(child) {
             return Ok(Watch::Waits);
         }
         let failed = broken(self.alloc, arming.wait.as_str())?;
-        if stands(&self.events, failed.as_str()) {
-            self.remember(Event::Refused { child })?;
+        if self.stands(failed.as_str()) {
+            self.log.make_room()?;
+            self.log.refused(child);
             return Ok(Watch::Broke { exit: None });
         }
-        if !is_ready(&self.events, arming) {
+        if !self.is_ready(arming) {
             return Ok(Watch::Waits);
         }
         let order = arming.order.copy(self.alloc)?;
-        self.remember(Event::Started { child, order })?;
+        self.log.make_room()?;
+        self.log.started(child, order);
         Ok(Watch::Started)
     }
 }
 
 impl Host for CleanHost {
-    ghost told = { λ host. reverse host.events.items };
+    ghost told = { λ host. host.log.told };
 
-    ghost killed = { λ host child. slice_index_or host.killed child true };
+    ghost killed = { λ host. flags host.log.killed };
 
-    ghost watches = { λ host child. slice_index_or host.watches child 0 };
+    ghost watches = { λ host. counts host.log.watches };
 
-    ghost files = { λ host. Some (files_of (reverse host.events.items)) };
+    ghost files = { λ host. Some (files_of host.log.told) };
 
     ghost faults = { λ host. 0 };
 
     fn clear(&mut self, folder: &str) -> Result<(), Miss> {
         let folder = Text::from_str(self.alloc, folder)?;
-        self.events.push(Event::Cleared {
-            folder,
-            answered: true,
-        })?;
+        self.log.make_room()?;
+        self.log.note_clear(folder, true);
         Ok(())
     }
 
     fn put(&mut self, path: &str, bytes: &[u8]) -> Result<(), Miss> {
         let path = Text::from_str(self.alloc, path)?;
         let bytes = bytes_of(self.alloc, bytes)?;
-        self.remember(Event::Put {
-            path,
-            bytes,
-            answered: true,
-        })?;
+        self.log.make_room()?;
+        self.log.note_put(path, bytes, true);
         Ok(())
     }
 
     fn look(&mut self, path: &str) -> Result<bool, Miss> {
-        Ok(file_in(&self.events, path).is_some())
+        Ok(self.stands(path))
     }
 
     fn fetch(&mut self, path: &str, limit: u64) -> Result<Option<Bytes>, Miss> {
-        let bytes = first_bytes(self.alloc, file_in(&self.events, path), limit)?;
+        let bytes = first_bytes(self.alloc, file_in(self.log.events(), path), limit)?;
         let told = copy_bytes(self.alloc, &bytes)?;
         let path = Text::from_str(self.alloc, path)?;
-        self.events.push(Event::Fetched { path, bytes: told })?;
+        self.log.make_room()?;
+        self.log.note_fetched(path, told);
         Ok(bytes)
     }
 
     fn start(&mut self, order: &Order) -> Result<u64, Miss> {
         let order = order.copy(self.alloc)?;
-        let child = self.fresh()?;
-        self.remember(Event::Started { child, order })?;
-        Ok(child)
+        self.log.make_room()?;
+        Ok(self.log.start(order))
     }
 
     fn poll(&mut self, child: u64) -> Result<Poll, Miss> {
-        if let Some(exit) = exit_in(&self.events, child) {
+        if let Some(exit) = self.log.exit(child) {
             return Ok(Poll::Exited(exit));
         }
-        if !started_in(&self.events, child) || arming_in(&self.events, child).is_some() {
+        if !self.log.has_started(child) || self.log.arming(child).is_some() {
             return Ok(Poll::Runs);
         }
         Ok(Poll::Exited(self.end(child)?))
@@ -492,15 +397,8 @@ impl Host for CleanHost {
         post: &str,
         keep_going: bool,
     ) -> Result<u64, Miss> {
-        let arming = Arming {
-            order: order.copy(self.alloc)?,
-            wait: Text::from_str(self.alloc, wait)?,
-            post: Text::from_str(self.alloc, post)?,
-            keep_going,
-        };
-        let child = self.fresh()?;
-        self.remember(Event::Armed { child, arming })?;
-        Ok(child)
+        let arming = arming_from(self.alloc, order, wait, post, keep_going)?;
+        Ok(self.log.arm(self.alloc, arming)?)
     }
 
     fn watch(&mut self, child: u64) -> Result<Watch, Miss>
@@ -514,25 +412,37 @@ impl Host for CleanHost {
         ensures watches { CountsWatch child (⟦<CleanHost as Host>⟧.watches self.old) (⟦<CleanHost as Host>⟧.watches self.new) result }
         ensures count { Counts (⟦<CleanHost as Host>⟧.faults self.old) (⟦<CleanHost as Host>⟧.faults self.new) result }
     {
-        if child >= 64 {
-            return Err(Miss::Memory);
-        }
         let watch = self.watch_once(child)?;
-        let count = self.watches[child as usize];
-        self.watches[child as usize] = count.saturating_add(1);
+        self.log.watched(child);
         Ok(watch)
     }
 
     fn kill(&mut self, child: u64) -> Result<(), Failed> {
-        if child < 64 {
-            self.killed[child as usize] = true;
-        }
+        self.log.kill(child);
         Ok(())
     }
 }
 
+/// What an entry is armed with, copied.
+pub(crate) fn arming_from(
+    alloc: Global,
+    order: &Order,
+    wait: &str,
+    post: &str,
+    keep_going: bool,
+) -> Result<Arming, AllocError>
+    ensures { IfOk result (λ arming. arming ≡ arming_with order.now wait.now post.now keep_going) }
+{
+    Ok(Arming {
+        order: order.copy(alloc)?,
+        wait: Text::from_str(alloc, wait)?,
+        post: Text::from_str(alloc, post)?,
+        keep_going,
+    })
+}
+
 /// A copy of bytes, where there are some.
-pub(crate) fn copy_bytes(alloc: Global, bytes: &Option<Bytes>) -> Result<Option<Bytes>, Miss>
+pub fn copy_bytes(alloc: Global, bytes: &Option<Bytes>) -> Result<Option<Bytes>, Miss>
     ensures same { IfOk result (λ copied. copied ≡ bytes.now) }
     ensures memory { OnErr result (result ≡ Err Memory) }
 {
@@ -543,7 +453,7 @@ pub(crate) fn copy_bytes(alloc: Global, bytes: &Option<Bytes>) -> Result<Option<
 }
 
 /// At most so many bytes of the file.
-fn first_bytes(alloc: Global, file: Option<&[u8]>, limit: u64) -> Result<Option<Bytes>, Miss>
+pub fn first_bytes(alloc: Global, file: Option<&[u8]>, limit: u64) -> Result<Option<Bytes>, Miss>
     ensures first { IfOk result (λ bytes. bytes ≡ option_map (λ b. take limit b.now) file.entry) }
     ensures memory { OnErr result (result ≡ Err Memory) }
 {

@@ -1,9 +1,10 @@
 //! The record of a host's history, with an index by child, so that no question scans the history. It calls no system.
-ghost use Rattle.std.specs.Prelude.{◌≡◌, ◌≤◌, ◌<◌, ◌+◌, ◌-◌, ℕ, true, false, [], ◌∷◌, Option, Some, None, option_map, OnOk, OnErr, IfOk, nat_eq, ◌||◌, ◌++◌, vec_len, vec_capacity, IsTrue};
+ghost use Rattle.std.specs.Prelude.{◌≡◌, ◌≤◌, ◌<◌, ◌+◌, ◌-◌, ℕ, true, false, [], ◌∷◌, Option, Some, None, option_map, OnOk, OnErr, IfOk, reverse, ◌++◌, vec_len, vec_capacity, IsTrue};
 ghost use Rattle.std.specs.Option.{is_some, OnSome};
 ghost use Rattle.std.specs.Bool.{OnTrue};
 ghost use Rattle.tk_edge.specs.declared.event.Event.TheVariants.{Put, Cleared, Fetched, Armed, Started, Refused, Exited};
 ghost use Rattle.tk_edge.specs.Causes.{IsWatchedOnce};
+ghost use Rattle.tk_edge.specs.Calls.{MarksKilled};
 ghost use Rattle.tk_edge.specs.History.{IsNew, HasPassed, MayStart, arming_of, order_of, exit_of, is_refused, was_put};
 ghost use Rattle.tk_edge.specs.HostLog.{counts, flags};
 
@@ -33,8 +34,8 @@ pub struct HostLog {
 }
 
 impl Model for HostLog {
-    ghost use Rattle.std.specs.Prelude.{◌≡◌, ◌-◌, reverse, min, vec_len, vec_capacity, length};
-    ghost use Rattle.tk_edge.specs.HostLog.{Logged, IsIndexed};
+    ghost use Rattle.std.specs.Prelude.{◌-◌, reverse, min, vec_len, vec_capacity, length};
+    ghost use Rattle.tk_edge.specs.HostLog.{Logged, IsWhole};
 
     ghost Value = { Logged };
 
@@ -44,23 +45,34 @@ impl Model for HostLog {
       watches = log.watches.items;
       count = length log.children.items;
       room = vec_capacity log.events - vec_len log.events;
-      child_room = min (vec_capacity log.children - vec_len log.children) (vec_capacity log.watches - vec_len log.watches);
+      child_room = min (vec_capacity log.children - vec_len log.children)
+          (min (vec_capacity log.killed - vec_len log.killed) (vec_capacity log.watches - vec_len log.watches));
     } };
 
-    ghost invariant = { λ log. IsIndexed (reverse log.events.items) log.children.items × (length log.watches.items ≡ length log.children.items) };
+    ghost invariant = { λ log. IsWhole (reverse log.events.items) log.children.items log.killed.items log.watches.items };
 }
 
 impl HostLog {
-    /// The record of a host that did nothing, which can give so many numbers of children.
-    pub fn new(alloc: Global, most: usize) -> Result<Self, AllocError>
-        ensures told { IfOk result (λ log. log.told ≡ []) }
+    /// The record of a host that did nothing.
+    pub fn new(alloc: Global) -> Self
+        ensures told { result.told ≡ [] }
+        ensures count { result.count ≡ 0 }
+        ensures killed { result.killed ≡ [] }
+        ensures watches { result.watches ≡ [] }
     {
-        Ok(HostLog {
+        HostLog {
             events: Vec::new(alloc),
             children: Vec::new(alloc),
-            killed: vec![in alloc; false; most]?,
+            killed: Vec::new(alloc),
             watches: Vec::new(alloc),
-        })
+        }
+    }
+
+    /// All that was done, the oldest first.
+    pub fn events(&self) -> &[Event]
+        ensures { reverse result.now ≡ self.now.told }
+    {
+        &self.events
     }
 
     /// Makes room for one more event and one more child. The only error is want of memory.
@@ -74,6 +86,7 @@ impl HostLog {
     {
         self.events.reserve(1)?;
         self.children.reserve(1)?;
+        self.killed.reserve(1)?;
         self.watches.reserve(1)
     }
 
@@ -119,13 +132,13 @@ impl HostLog {
         }
     }
 
-    /// Whether the number was killed. One that is never given counts as killed.
+    /// Whether the number was killed.
     pub fn is_killed(&self, child: u64) -> bool
         ensures { result ≡ flags self.now.killed child }
     {
         match self.killed.get(child as usize) {
             Some(killed) => *killed,
-            None => true,
+            None => false,
         }
     }
 
@@ -133,6 +146,7 @@ impl HostLog {
     pub fn count(&self) -> u64
         ensures count { result ≡ self.now.count }
         ensures fresh { IsNew result self.now.told }
+        ensures alive { flags self.now.killed result ≡ false }
     {
         self.children.len() as u64
     }
@@ -143,6 +157,7 @@ impl HostLog {
         ensures told { self.new.told ≡ Put path bytes answered ∷ self.old.told }
         ensures killed { self.new.killed ≡ self.old.killed }
         ensures watches { self.new.watches ≡ self.old.watches }
+        ensures count { self.new.count ≡ self.old.count }
     {
         push_within(
             &mut self.events,
@@ -160,6 +175,7 @@ impl HostLog {
         ensures told { self.new.told ≡ Cleared folder answered ∷ self.old.told }
         ensures killed { self.new.killed ≡ self.old.killed }
         ensures watches { self.new.watches ≡ self.old.watches }
+        ensures count { self.new.count ≡ self.old.count }
     {
         push_within(&mut self.events, Event::Cleared { folder, answered });
     }
@@ -170,17 +186,21 @@ impl HostLog {
         ensures told { self.new.told ≡ Fetched path bytes ∷ self.old.told }
         ensures killed { self.new.killed ≡ self.old.killed }
         ensures watches { self.new.watches ≡ self.old.watches }
+        ensures count { self.new.count ≡ self.old.count }
     {
         push_within(&mut self.events, Event::Fetched { path, bytes });
     }
 
     /// A new child, which is armed. The only error is want of memory, and nothing is told then.
     pub fn arm(&mut self, alloc: Global, arming: Arming) -> Result<u64, AllocError>
+        ensures count { IfOk result (λ _. self.new.count ≡ self.old.count + 1) }
+        ensures same_count { OnErr result (self.new.count ≡ self.old.count) }
         ensures number { IfOk result (λ child. child ≡ self.old.count) }
         ensures fresh { IfOk result (λ child. IsNew child self.old.told) }
         ensures told { IfOk result (λ child. self.new.told ≡ Armed child arming ∷ self.old.told) }
         ensures same { OnErr result (self.new.told ≡ self.old.told) }
-        ensures killed { self.new.killed ≡ self.old.killed }
+        ensures alive { IfOk result (λ child. flags self.new.killed child ≡ false) }
+        ensures killed { flags self.new.killed ≡ flags self.old.killed }
         ensures watches { counts self.new.watches ≡ counts self.old.watches }
     {
         self.make_room()?;
@@ -196,6 +216,7 @@ impl HostLog {
                 refused: false,
             },
         );
+        push_within(&mut self.killed, false);
         push_within(&mut self.watches, 0);
         Ok(child)
     }
@@ -204,10 +225,12 @@ impl HostLog {
     pub fn start(&mut self, order: Order) -> u64
         requires room { 0 < self.old.room }
         requires child_room { 0 < self.old.child_room }
+        ensures count { self.new.count ≡ self.old.count + 1 }
         ensures number { result ≡ self.old.count }
         ensures fresh { IsNew result self.old.told }
         ensures told { self.new.told ≡ Started result order ∷ self.old.told }
-        ensures killed { self.new.killed ≡ self.old.killed }
+        ensures alive { flags self.new.killed result ≡ false }
+        ensures killed { flags self.new.killed ≡ flags self.old.killed }
         ensures watches { counts self.new.watches ≡ counts self.old.watches }
     {
         let child = self.count();
@@ -221,6 +244,7 @@ impl HostLog {
                 refused: false,
             },
         );
+        push_within(&mut self.killed, false);
         push_within(&mut self.watches, 0);
         child
     }
@@ -264,9 +288,9 @@ impl HostLog {
         push_within(&mut self.events, Event::Refused { child });
     }
 
-    /// Marks a number as killed. It takes no memory.
+    /// Marks a child as killed; a number that wasn't given stays as it was. It takes no memory.
     pub fn kill(&mut self, child: u64)
-        ensures killed { (other : ℕ) → flags self.new.killed other ≡ (nat_eq other child || flags self.old.killed other) }
+        ensures killed { MarksKilled child self.old.told (flags self.old.killed) (flags self.new.killed) }
         ensures told { self.new.told ≡ self.old.told }
         ensures watches { self.new.watches ≡ self.old.watches }
         ensures count { self.new.count ≡ self.old.count }
@@ -280,6 +304,7 @@ impl HostLog {
     pub fn watched(&mut self, child: u64)
         requires { child < self.old.count }
         ensures watches { IsWatchedOnce child (counts self.old.watches) (counts self.new.watches) }
+        ensures count { self.new.count ≡ self.old.count }
         ensures told { self.new.told ≡ self.old.told }
         ensures killed { self.new.killed ≡ self.old.killed }
     {
@@ -329,8 +354,8 @@ impl HostLog {
     }
 }
 
-// Pushes where there is room.
-pub(crate) fn push_within<T: Drop>(items: &mut Vec<T>, item: T)
+/// Pushes where there is room.
+pub fn push_within<T: Drop>(items: &mut Vec<T>, item: T)
     requires { vec_len items.old < vec_capacity items.old }
     ensures { items.new.items ≡ items.old.items ++ item ∷ [] }
 {

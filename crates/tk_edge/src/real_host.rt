@@ -9,7 +9,7 @@ ghost use Rattle.tk_edge.specs.History.{Has, StillWaits, MayStart, arming_of, or
 ghost use Rattle.tk_edge.specs.HostLog.{counts, flags};
 ghost use Rattle.tk_edge.specs.Calls.{TellsWatch};
 
-use crate::clean_host::{copy_bytes, ended, passes};
+use crate::clean_host::{arming_from, copy_bytes, ended, passes};
 use crate::event::Arming;
 use crate::host::Host;
 use crate::host_log::{HostLog, push_within};
@@ -23,9 +23,6 @@ use std::process::{Child, Command, ExitStatus, OpenProcess, Processes, Stdio};
 use std::rt::Files;
 use std::{fs, io};
 use tk_types::{Bytes, Text, TryCopy};
-
-/// How many children a host gives at most.
-const MOST_CHILDREN: usize = 1_048_576;
 
 // The process of a child once it was started, and its exit once that was found.
 #[derive(Drop)]
@@ -57,22 +54,28 @@ impl<'a, R: Processes> Drop for RealHost<'a, R> {
     }
 }
 
-impl<'a, R: Processes> RealHost<'a, R> {
-    /// A host whose programs are looked for in the folders of `path`, which are separated by colons. The only error is
-    /// want of memory.
+impl<'a, R: Processes + Files> RealHost<'a, R> {
+    /// A host that did nothing, whose programs are looked for in the folders of `path`, which are separated by colons.
+    /// The only error is want of memory.
     pub fn new(rt: &'a R, alloc: Global, path: &str) -> Result<Self, AllocError>
-        ensures { IfOk result (λ host. host.log.told ≡ []) }
+        ensures told { IfOk result (λ host. ⟦<RealHost<'a, R> as Host>⟧.told host ≡ []) }
+        ensures killed { IfOk result (λ host. (child : ℕ) → ⟦<RealHost<'a, R> as Host>⟧.killed host child ≡ false) }
+        ensures watches { IfOk result (λ host. (child : ℕ) → ⟦<RealHost<'a, R> as Host>⟧.watches host child ≡ 0) }
+        ensures files { IfOk result (λ host. ⟦<RealHost<'a, R> as Host>⟧.files host ≡ None) }
+        ensures faults { IfOk result (λ host. ⟦<RealHost<'a, R> as Host>⟧.faults host ≡ 0) }
     {
         Ok(RealHost {
             rt,
             alloc,
             path: Text::from_str(alloc, path)?,
-            log: HostLog::new(alloc, MOST_CHILDREN)?,
+            log: HostLog::new(alloc),
             steps: Vec::new(alloc),
             faults: 0,
         })
     }
+}
 
+impl<'a, R: Processes> RealHost<'a, R> {
     // A call failed, which counts.
     fn fail<T>(&mut self) -> Result<T, Miss>
         ensures failed { result ≡ Err Fails }
@@ -519,13 +522,9 @@ impl<'a, R: Processes + Files> Host for RealHost<'a, R> {
         let told = order.copy(self.alloc)?;
         self.log.make_room()?;
         self.steps.reserve(1)?;
-        let child = self.log.count();
-        if self.log.is_killed(child) {
-            return self.fail();
-        }
         match spawn_order(self.rt, self.alloc, self.path.as_str(), order) {
             Ok(process) => {
-                self.log.start(told);
+                let child = self.log.start(told);
                 push_within(
                     &mut self.steps,
                     Step {
@@ -564,16 +563,8 @@ impl<'a, R: Processes + Files> Host for RealHost<'a, R> {
         post: &str,
         keep_going: bool,
     ) -> Result<u64, Miss> {
-        let arming = Arming {
-            order: order.copy(self.alloc)?,
-            wait: Text::from_str(self.alloc, wait)?,
-            post: Text::from_str(self.alloc, post)?,
-            keep_going,
-        };
+        let arming = arming_from(self.alloc, order, wait, post, keep_going)?;
         self.steps.reserve(1)?;
-        if self.log.is_killed(self.log.count()) {
-            return self.fail();
-        }
         let child = self.log.arm(self.alloc, arming)?;
         push_within(
             &mut self.steps,

@@ -22,6 +22,27 @@ impl Script {
         }
     }
 
+    /// Counts one more call and tells whether it is to fail. The count stops at its type's end.
+    pub fn next(&mut self) -> bool
+        ensures scripted { IsTrue result ↔ Contains self.old.failing self.old.calls }
+        ensures script { self.new.failing ≡ self.old.failing }
+        ensures counted { self.new.calls ≡ min (self.old.calls + 1) (2 ^ 64 - 1) }
+        ensures faults { self.new.faults ≡ self.old.faults }
+    {
+        let fails = self.failing.as_slice().contains(&self.calls);
+        self.calls = self.calls.saturating_add(1);
+        fails
+    }
+
+    /// Counts a fault.
+    pub fn fault(&mut self)
+        ensures script { self.new.failing ≡ self.old.failing }
+        ensures calls { self.new.calls ≡ self.old.calls }
+        ensures faults { self.new.faults ≡ raised self.old.faults }
+    {
+        self.faults = self.faults.saturating_add(1);
+    }
+
     /// Counts one more call and tells whether it is to fail, which counts as a fault. Counts stop at their type's end.
     pub fn fails(&mut self) -> bool
         ensures scripted { IsTrue result ↔ Contains self.old.failing self.old.calls }
@@ -29,10 +50,9 @@ impl Script {
         ensures counted { self.new.calls ≡ min (self.old.calls + 1) (2 ^ 64 - 1) }
         ensures faults { self.new.faults ≡ (if result then raised self.old.faults else self.old.faults) }
     {
-        let fails = self.failing.as_slice().contains(&self.calls);
-        self.calls = self.calls.saturating_add(1);
+        let fails = self.next();
         if fails {
-            self.faults = self.faults.saturating_add(1);
+            self.fault();
         }
         fails
     }

@@ -1,0 +1,2 @@
+pub mod StaysArmed
+pub mod Unchanged

@@ -1,4 +1,6 @@
 ghost use Rattle.std.specs.Prelude.{◌≡◌, None, Ok, IfOk, OnErr, true};
+ghost use Rattle.tk_edge.specs.Armed.{IsTurnFile};
+ghost use Rattle.tk_edge.specs.Files.{MayChange};
 ghost use Rattle.tk_entry.specs.declared.entry.Turn.TheVariants.{HostFault};
 ghost use Rattle.tk_entry.specs.Entry.{first_entry, turn_of as turn_of_watch, with_note, EntryAnswers, EntryMissed};
 
@@ -72,9 +74,13 @@ impl EntryPoint {
     /// starts the order behind the latter; then it polls its child, and leaves its post file once that ended. HostFault
     /// comes where a call on the host failed in this turn, which its count of faults tells; then, and in each later
     /// turn, nothing is started. The only error is want of memory, behind which no order was started either.
+    #[tactic(auto, using(crate::proofs::Unchanged::may_same))]
     pub fn turn<H: Host>(&mut self, alloc: Global, host: &mut H) -> Result<Turn, AllocError>
         ensures turn { IfOk result (EntryAnswers self.old self.new record { told = H.told host.old; now = H.told host.new; faults = H.faults host.old; faults_now = H.faults host.new } (H.files host.old)) }
         ensures memory { OnErr result (EntryMissed self.old self.new record { told = H.told host.old; now = H.told host.new; faults = H.faults host.old; faults_now = H.faults host.new }) }
+        ensures others { MayChange (IsTurnFile self.old.armed (H.told host.old)) (H.files host.old) (H.files host.new) }
+        ensures killed { H.killed host.new ≡ H.killed host.old }
+        ensures watches { H.watches host.new ≡ H.watches host.old }
         ensures again { self.old.failed ≡ true → (host.new ≡ host.old) × (result ≡ Ok HostFault) }
     {
         if self.failed {

@@ -5,6 +5,8 @@
 
 mod entry;
 #[cfg(test)]
+mod host_tests;
+#[cfg(test)]
 mod tests;
 
 pub use entry::{EntryPoint, Turn};

@@ -1,0 +1,5 @@
+pub mod Places
+pub mod Played
+pub mod ScriptExamples
+pub mod ScriptFiles
+pub mod Tables

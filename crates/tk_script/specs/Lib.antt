@@ -1,0 +1,2 @@
+pub mod FileTable
+pub mod ScriptHost
