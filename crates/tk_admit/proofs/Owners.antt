@@ -7,7 +7,8 @@ use Rattle.tk_types.specs.Place.{Place}
 use Rattle.tk_names.specs.Clash.{clash, IsClash}
 use Rattle.tk_names.proofs.ClashLaw.{clash-found_is}
 use Rattle.tk_admit.specs.declared.taken.Taken.{Taken}
-use Rattle.tk_admit.specs.Names.{all_names, clash_of, names_finding, names_of, owners}
+use Rattle.tk_journal.specs.Names.{task_run_names}
+use Rattle.tk_admit.specs.Names.{all_names, clash_of, names_finding, owners}
 
 -- one value in place of each element
 pub replicated : {X Y : Type 0} (y : Y) (xs : List X) → replicate (length xs) y ≡ map (λ (x : X). y) xs
@@ -18,10 +19,10 @@ replicated y (x ∷ xs) = ap (λ ys. y ∷ ys) (replicated y xs)
 length-owners : (runs : List Taken) → length (owners runs) ≡ length (all_names runs)
 length-owners [] = refl
 length-owners (run ∷ runs) =
-    let here : length (map (λ (name : List ℕ). run.place) (names_of run.spec)) ≡ length (names_of run.spec) = length-map (names_of run.spec) (λ (name : List ℕ). run.place) in
+    let here : length (map (λ (name : List ℕ). run.place) (task_run_names run.spec)) ≡ length (task_run_names run.spec) = length-map (task_run_names run.spec) (λ (name : List ℕ). run.place) in
     let rest : length (owners runs) ≡ length (all_names runs) = length-owners runs in
-    length-append (map (λ (name : List ℕ). run.place) (names_of run.spec)) (owners runs)
-    ∙ (omega arith ∙ sym (length-append (names_of run.spec) (all_names runs)))
+    length-append (map (λ (name : List ℕ). run.place) (task_run_names run.spec)) (owners runs)
+    ∙ (omega arith ∙ sym (length-append (task_run_names run.spec) (all_names runs)))
 
 -- a name that clashes is one of them, and has an owner
 pub clash_owned : (runs : List Taken) (names : List (List ℕ)) (held : List (Bor Place)) (earlier later : ℕ) → names ≡ all_names runs → map (λ (p : Bor Place). p.now) held ≡ owners runs → clash names ≡ Some (earlier, later) → (earlier < length held) × (later < length held)

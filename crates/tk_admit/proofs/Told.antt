@@ -2,7 +2,7 @@
 use Rattle.std.proofs.Common.{◌≡◌, ℕ, ◌+◌, ◌-◌, ◌^◌, ◌<◌, min, List, [], ◌∷◌, ◌++◌, length, take, get_or, sum_by, sym, ap, ◌∙◌, arith}
 use Rattle.std.proofs.lemmas.List.{length_push}
 use Rattle.std.proofs.lemmas.List.Sums.{sum_by_more}
-use Rattle.tk_resolve.specs.Possible.{told_count}
+use Rattle.tk_early.specs.Possible.{told_count}
 
 -- a sum of told numbers is told as the sum of the numbers
 pub told_sum : (a b m n : ℕ) → m ≡ told_count a → n ≡ told_count b → min (m + n) (2 ^ 64 - 1) ≡ told_count (a + b)

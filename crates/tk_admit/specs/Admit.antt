@@ -2,12 +2,13 @@
 use Rattle.std.specs.Prelude.{ℕ, nat_lt, List, [], ◌∷◌, map, length, codes}
 use Rattle.tk_types.specs.declared.object.Item.{Item}
 use Rattle.tk_types.specs.Fault.{too_large}
+use Rattle.tk_types.specs.Limits.{most_objects}
 use Rattle.tk_types.specs.Place.{root, ◌▸◌}
 use Rattle.tk_types.specs.First.{Finding, first_of, refused_if}
 use Rattle.tk_manifest.specs.declared.kinds.KindSet.{KindSet}
 use Rattle.tk_manifest.specs.Input.{reading_fault, objects_of}
 use Rattle.tk_validate.specs.Validate.{item_fault}
-use Rattle.tk_resolve.specs.Possible.{told_count}
+use Rattle.tk_early.specs.Possible.{told_count}
 use Rattle.tk_journal.specs.declared.admitted.Admitted.{Admitted}
 use Rattle.tk_admit.specs.Command.{command_facts, command_finding, the_scenario}
 use Rattle.tk_admit.specs.Names.{names_finding}
@@ -16,9 +17,6 @@ use Rattle.tk_admit.specs.Taken.{entry_of, taken}
 use Rattle.tk_admit.specs.Weight.{weight, weight_finding}
 
 -- the input has too many objects
-abbrev pub most_objects : ℕ
-most_objects = 1000
-
 abbrev pub count_finding : List Item → Finding
 count_finding items = refused_if (nat_lt most_objects (length items)) (too_large (root ▸ codes "items") most_objects (length items))
 

@@ -22,7 +22,7 @@ use Rattle.tk_manifest.specs.declared.kinds.KindSet.TheVariants.{Four, WithOutco
 use Rattle.tk_journal.specs.declared.act.Admission.{Admission}
 use Rattle.tk_journal.specs.declared.act.Admission.TheVariants.{Run, Task}
 use Rattle.tk_admit.specs.declared.taken.Taken.{Taken}
-use Rattle.tk_admit.specs.Objects.{name_of}
+use Rattle.tk_types.specs.Behaviour.{name_of}
 use Rattle.tk_admit.specs.Taken.{with_earlier}
 
 -- outcomes and scenarios

@@ -11,10 +11,11 @@ use Rattle.tk_bind.specs.Readings.{ReadsTaskSpec}
 use Rattle.tk_journal.specs.declared.act.Admission.{Admission}
 use Rattle.tk_journal.specs.declared.act.Admission.TheVariants.{Run, Task}
 use Rattle.tk_resolve.specs.Laws.{HasOneBodyEach, ReadsRunSpec}
-use Rattle.tk_resolve.specs.Possible.{most_combinations, possible_children}
+use Rattle.tk_types.specs.Limits.{most_combinations}
+use Rattle.tk_early.specs.Possible.{possible_children}
 use Rattle.tk_validate.specs.Validate.{item_fault}
 use Rattle.tk_admit.specs.declared.taken.Taken.{Taken}
-use Rattle.tk_admit.specs.Objects.{tasks_of}
+use Rattle.tk_types.specs.Behaviour.{tasks_of}
 
 -- each object is valid by itself
 abbrev pub IsValid : Item → Type 0

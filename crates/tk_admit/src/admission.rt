@@ -16,21 +16,17 @@ use std::alloc::Global;
 use tk_fields::Location;
 use tk_journal::Admitted;
 use tk_manifest::{KindSet, WithDocument, read_objects_with_document};
-use tk_types::{Detail, Item, Rejected};
+use tk_types::{Detail, Item, MOST_OBJECTS, Rejected};
 use tk_validate::{told, validate};
-
-/// The most objects that an input may have.
-const MOST_OBJECTS: u64 = 1000;
 
 /// Refuses too many objects.
 fn check_count(alloc: Global, items: &[Item]) -> Result<(), Rejected>
     ensures { Reads (count_finding items.now) tt result }
 {
-    let count = items.len() as u64;
-    if MOST_OBJECTS < count {
+    if MOST_OBJECTS < items.len() {
         let detail = Detail::Sizes {
-            limit: MOST_OBJECTS,
-            count,
+            limit: MOST_OBJECTS as u64,
+            count: items.len() as u64,
         };
         return Err(told(alloc, 21, &Location::root().key("items"), detail));
     }

@@ -3,17 +3,18 @@ ghost use Rattle.std.specs.Option.{ForSome};
 ghost use Rattle.tk_types.specs.Rejected.{IsRefusal, Reads};
 ghost use Rattle.tk_bind.specs.Readings.{ReadsPipelineTask};
 ghost use Rattle.tk_names.specs.Children.{child_names as child_names_of};
-ghost use Rattle.tk_admit.specs.Names.{clash_of, names_finding, names_of, task_names as names_of_task};
+ghost use Rattle.tk_journal.specs.Names.{task_run_names, task_names as names_of_task};
+ghost use Rattle.tk_admit.specs.Names.{clash_of, names_finding};
 ghost use Rattle.tk_journal.specs.declared.act.Admission.TheVariants.{Run};
-ghost use Rattle.tk_admit.specs.Objects.{tasks_of};
+ghost use Rattle.tk_types.specs.Behaviour.{tasks_of};
 ghost use Rattle.tk_admit.specs.Sound.{HasFewChildren, HasFewEach, IsSound, IsTaken};
 
 use crate::taken::Taken;
 use std::alloc::{AllocError, Global};
+use tk_early::RunValues;
 use tk_fields::Location;
 use tk_journal::Admission;
 use tk_names::{child_name, clash};
-use tk_resolve::RunValues;
 use tk_types::{Detail, List, PipelineTask, Place, Rejected, RunSpec, Text, TryCopy};
 use tk_validate::told;
 
@@ -87,7 +88,7 @@ fn add_tasks_names(
 fn add_run_names(alloc: Global, names: &mut List<Text>, spec: &RunSpec) -> Result<(), AllocError>
     requires readable { All ReadsPipelineTask (tasks_of spec.now) }
     requires few { All (HasFewChildren spec.now) (tasks_of spec.now) }
-    ensures { OnOk result (names.new ≡ names.old ++ names_of (Run spec.now)) }
+    ensures { OnOk result (names.new ≡ names.old ++ task_run_names (Run spec.now)) }
 {
     let values = RunValues::new(alloc, spec)?;
     let run = spec.name.as_str();
@@ -99,7 +100,7 @@ fn add_run_names(alloc: Global, names: &mut List<Text>, spec: &RunSpec) -> Resul
 fn add_names(alloc: Global, names: &mut List<Text>, admission: &Admission) -> Result<(), AllocError>
     requires sound { IsSound admission.now }
     requires few { HasFewEach admission.now }
-    ensures { OnOk result (names.new ≡ names.old ++ names_of admission.now) }
+    ensures { OnOk result (names.new ≡ names.old ++ task_run_names admission.now) }
 {
     match admission {
         Admission::Run(spec) => add_run_names(alloc, names, spec),
@@ -129,8 +130,8 @@ fn add_run<'a>(
     run: &'a Taken,
 ) -> Result<(), AllocError>
     requires { IsTaken run.now }
-    ensures names { OnOk result (names.new ≡ names.old ++ names_of run.now.spec) }
-    ensures owners { OnOk result (map (λ p. p.now) owners.new.items ≡ map (λ p. p.now) owners.old.items ++ map (λ (name : L ℕ). run.now.place) (names_of run.now.spec)) }
+    ensures names { OnOk result (names.new ≡ names.old ++ task_run_names run.now.spec) }
+    ensures owners { OnOk result (map (λ p. p.now) owners.new.items ≡ map (λ p. p.now) owners.old.items ++ map (λ (name : L ℕ). run.now.place) (task_run_names run.now.spec)) }
 {
     let before = names.len();
     add_names(alloc, names, &run.spec)?;

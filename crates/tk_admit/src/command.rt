@@ -10,7 +10,7 @@ ghost use Rattle.tk_admit.specs.Command.{as_scenario as scenario_of_object, comm
 ghost use Rattle.tk_admit.specs.Sound.{IsTaken};
 
 use crate::facts::facts_of;
-use crate::objects::{name_of, one_name};
+use crate::objects::one_name;
 use crate::taken::Taken;
 use std::alloc::{AllocError, Global};
 use tk_fields::{Location, refusal};
@@ -103,7 +103,7 @@ fn check_second(alloc: Global, items: &[&Item]) -> Result<(), Rejected>
     ensures { Reads (second_object (map (λ i. i.now) items.now)) tt result }
 {
     match items {
-        [_, item, ..] => Err(refuse_second(alloc, name_of(&item.object))),
+        [_, item, ..] => Err(refuse_second(alloc, item.object.name())),
         _ => Ok(()),
     }
 }

@@ -6,7 +6,8 @@ ghost use Rattle.tk_types.specs.declared.fault.Detail.TheVariants.{Names};
 ghost use Rattle.tk_types.specs.First.{first_of};
 ghost use Rattle.tk_types.specs.Rejected.{IsRefusal, Reads};
 ghost use Rattle.tk_bind.specs.Readings.{ReadsPipelineTask};
-ghost use Rattle.tk_admit.specs.Objects.{is_same_object as is_same, kind_of as kind_of_object, matrix_finding, name_of as name_of_object, object_finding, objects_finding, same_name_finding, task_oversize, tasks_of};
+ghost use Rattle.tk_types.specs.Behaviour.{tasks_of};
+ghost use Rattle.tk_admit.specs.Objects.{is_same_object as is_same, matrix_finding, object_finding, objects_finding, same_name_finding, task_oversize};
 ghost use Rattle.tk_admit.specs.Sound.{HasFewChildren, HasFewEach, IsSound, IsTaken, IsValid};
 ghost use Rattle.tk_admit.specs.Taken.{taken, taken_of};
 ghost use Rattle.tk_admit.specs.declared.taken.Taken.{Taken as T};
@@ -14,53 +15,23 @@ ghost use Rattle.tk_admit.specs.declared.taken.Taken.{Taken as T};
 use crate::laws::taken_is_sound;
 use crate::taken::{Taken, taken_item};
 use std::alloc::{AllocError, Global};
+use tk_early::RunValues;
+use tk_early::laws::few_children;
 use tk_fields::Location;
 use tk_journal::Admission;
-use tk_resolve::laws::few_children;
-use tk_resolve::{Earlier, RunValues};
+use tk_resolve::Earlier;
 use tk_types::{
-    Detail, Item, ItemObject, List, PipelineTask, Place, Rejected, RunSpec, Text, TryCopy,
+    Detail, Item, ItemObject, List, MOST_COMBINATIONS, PipelineTask, Place, Rejected, RunSpec,
+    Text, TryCopy,
 };
 use tk_validate::laws::valid_reads;
 use tk_validate::told;
-
-/// The most combinations that a matrix may have (Tekton, Matrix, Concurrency Control).
-const MOST_COMBINATIONS: u64 = 256;
-
-/// The number of an object's kind.
-fn kind_of(object: &ItemObject) -> u8
-    ensures { result ≡ kind_of_object object.now }
-{
-    match object {
-        ItemObject::Task { .. } => 0,
-        ItemObject::Pipeline { .. } => 1,
-        ItemObject::TaskRun(_) => 2,
-        ItemObject::PipelineRun(_) => 3,
-        ItemObject::Outcomes { .. } => 4,
-        ItemObject::Scenario { .. } => 5,
-    }
-}
-
-/// An object's name.
-pub(crate) fn name_of(object: &ItemObject) -> &Text
-    ensures { result.now ≡ name_of_object object.now }
-{
-    match object {
-        ItemObject::Task { name, .. } => name,
-        ItemObject::Pipeline { name, .. } => name,
-        ItemObject::TaskRun(run) => &run.name,
-        ItemObject::PipelineRun(run) => &run.name,
-        ItemObject::Outcomes { name, .. } => name,
-        ItemObject::Scenario { name, .. } => name,
-    }
-}
 
 /// Whether another object has the kind and the name.
 fn is_same_object(object: &ItemObject, other: &Item) -> bool
     ensures { result ≡ is_same object.now other.now }
 {
-    kind_of(object) == kind_of(&other.object)
-        && name_of(object).as_str() == name_of(&other.object).as_str()
+    object.kind() == other.object.kind() && object.name().as_str() == other.object.name().as_str()
 }
 
 /// Whether an object of the kind and the name stood before; an input has at most 1,000.
@@ -84,7 +55,7 @@ fn check_name(alloc: Global, earlier: &[Item], item: &Item) -> Result<(), Reject
     ensures { Reads (same_name_finding earlier.now item.now) tt result }
 {
     if stood_before(earlier, &item.object) {
-        let detail = one_name(alloc, name_of(&item.object))?;
+        let detail = one_name(alloc, item.object.name())?;
         return Err(told(alloc, 9, &Location::of(&item.place), detail));
     }
     Ok(())
@@ -103,9 +74,9 @@ fn check_task(
 {
     few_children();
     match values.settled_count(alloc, task)? {
-        Some(count) if MOST_COMBINATIONS < count => {
+        Some(count) if u64::from(MOST_COMBINATIONS) < count => {
             let detail = Detail::Sizes {
-                limit: MOST_COMBINATIONS,
+                limit: u64::from(MOST_COMBINATIONS),
                 count,
             };
             Err(told(alloc, 21, &Location::of(place), detail))

@@ -4,21 +4,21 @@ ghost use Rattle.tk_admit.specs.declared.taken.Taken.{Taken as R};
 ghost use Rattle.tk_journal.specs.declared.act.Admission.TheVariants.{Run};
 ghost use Rattle.tk_types.specs.Rejected.{Reads};
 ghost use Rattle.tk_bind.specs.Readings.{ReadsPipelineTask};
-ghost use Rattle.tk_resolve.specs.Possible.{told_count};
-ghost use Rattle.tk_admit.specs.Objects.{tasks_of};
+ghost use Rattle.tk_early.specs.Possible.{told_count};
+ghost use Rattle.tk_types.specs.Behaviour.{tasks_of};
 ghost use Rattle.tk_admit.specs.Sound.{IsSound, IsSoundRun, IsTaken};
-ghost use Rattle.tk_admit.specs.Weight.{asks_of as asks_of_item, child_weight as weight_of_child, is_ask as is_ask_event, object_asks as asks_of_object, run_weight as weight_of_run, task_weight as weight_of_task, weight as weight_of, weight_finding};
+ghost use Rattle.tk_journal.specs.Weight.{child_weight as weight_of_child, run_weight as weight_of_run, task_weight as weight_of_task};
+ghost use Rattle.tk_admit.specs.Weight.{asks_of as asks_of_item, is_ask as is_ask_event, object_asks as asks_of_object, weight as weight_of, weight_finding};
 
 use crate::taken::Taken;
 use std::alloc::{AllocError, Global};
+use tk_early::RunValues;
 use tk_fields::Location;
 use tk_journal::Admission;
-use tk_resolve::RunValues;
-use tk_types::{Detail, Event, Item, ItemObject, PipelineTask, Rejected, RunSpec, TaskBody};
+use tk_types::{
+    Detail, Event, Item, ItemObject, MOST_WEIGHT, PipelineTask, Rejected, RunSpec, TaskBody,
+};
 use tk_validate::told;
-
-/// The greatest weight of an input.
-const MOST_WEIGHT: u64 = 200_000;
 
 /// The weight of a TaskRun with these retries and this body.
 fn child_weight(retries: u32, body: &TaskBody) -> u64

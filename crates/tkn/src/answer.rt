@@ -12,7 +12,7 @@ use tk_admit::admit_with_document;
 use tk_journal::Admitted;
 use tk_manifest::KindSet;
 use tk_types::{Detail, Facts, Fault, Place, Rejected};
-use tk_verdict::{condition_with, pipeline_results, verdicts};
+use tk_verdict::Decision;
 
 /// The folder below which a run's files would stand; `check` and `decide` start none.
 const ROOT: &str = "/work";
@@ -32,9 +32,10 @@ fn decided_run(alloc: Global, facts: &Facts) -> Result<Due, AllocError>
     requires { IsWellFormed facts.now }
     ensures { IfOk result (λ due. due ≡ decided_facts facts.now) }
 {
-    let labels = verdicts(alloc, facts)?;
-    let condition = condition_with(alloc, facts, labels.as_slice())?;
-    let results = pipeline_results(alloc, facts)?;
+    let decision = Decision::new(alloc, facts)?;
+    let labels = decision.labels(alloc)?;
+    let condition = decision.condition_with(alloc, labels.as_slice())?;
+    let results = decision.results(alloc)?;
     decided(
         alloc,
         facts,

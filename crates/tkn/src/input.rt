@@ -1,12 +1,11 @@
 ghost use Rattle.std.specs.Prelude.{◌≡◌, ◌≤◌, ◌<◌, IfOk, IfSome, IsErrOf, OnOk, length, true};
+ghost use Rattle.tk_types.specs.Limits.{longest_input};
 ghost use Rattle.tkn.specs.Unread.{CountsReads};
 ghost use Rattle.tkn.specs.declared.input.Unread.TheVariants.{Memory};
 
 use std::alloc::{AllocError, Global};
 use tk_edge::Source;
-
-/// The greatest number of bytes that an input may have.
-const LONGEST_INPUT: usize = 8_388_608;
+use tk_types::LONGEST_INPUT;
 
 /// How many bytes are asked for at once.
 const PIECE: usize = 65_536;
@@ -29,10 +28,10 @@ impl From<AllocError> for Unread {
 
 /// All bytes of an input, read to its end.
 pub fn read_all<R: Source>(alloc: Global, input: &mut R) -> Result<Vec<u8>, Unread>
-    ensures short { IfOk result (λ bytes. length bytes.items ≤ 8388608) }
+    ensures short { IfOk result (λ bytes. length bytes.items ≤ longest_input) }
     ensures ended { OnOk result (R.ended input.new ≡ true) }
     ensures bytes { IfOk result (λ bytes. IfSome (R.left input.old) (λ left. bytes.items ≡ left)) }
-    ensures too_long { IsErrOf result Unread.TooLong → IfSome (R.left input.old) (λ left. 8388608 < length left) }
+    ensures too_long { IsErrOf result Unread.TooLong → IfSome (R.left input.old) (λ left. longest_input < length left) }
     ensures faults { CountsReads (R.faults input.old) (R.faults input.new) result }
 {
     let mut piece = [0u8; PIECE];

@@ -6,6 +6,10 @@
 
 mod answer;
 mod command;
+#[cfg(test)]
+mod data_tests;
+#[cfg(test)]
+mod decision_tests;
 mod due;
 mod input;
 mod output;

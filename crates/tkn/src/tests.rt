@@ -446,6 +446,11 @@ fn inputs_are_checked(rt: HostRuntime) -> Result<(), Fail> {
             3,
             "rejected 17 TimeoutsOverrun $.spec.timeouts\n",
         ),
+        (
+            "{'apiVersion': 'tekton.dev/v1', 'kind': 'PipelineRun', 'metadata': {'name': 'r'}, 'spec': {'pipelineSpec': {'tasks': [{'name': 'a', 'runAfter': ['b\\nok 1'], 'taskSpec': {'steps': [{'command': ['true']}]}}]}}}",
+            3,
+            "rejected 12 UnknownTask $.spec.pipelineSpec.tasks[0].runAfter[0] \"b\\nok 1\"\n",
+        ),
     ] {
         let (given, sink) = answered(alloc, "check", quoted(alloc, text)?)?;
         assert_eq!(rt; sink.bytes(), line.as_bytes());

@@ -1,6 +1,6 @@
 use Rattle.std.proofs.Common.{◌≡◌, ◌++◌, take}
 use Rattle.std.specs.List.{flat_map}
-use Rattle.tk_admit.specs.Names.{task_names}
+use Rattle.tk_journal.specs.Names.{task_names}
 use Rattle.tk_admit.proofs.clashes.add_tasks_names.Given as goal
 
 -- the names of the tasks so far stand behind those that were there

@@ -4,7 +4,8 @@ use Rattle.tk_types.specs.First.{Finding}
 use Rattle.tk_types.specs.Place.{Place}
 use Rattle.tk_types.specs.Rejected.{IsRefusal}
 use Rattle.tk_admit.specs.declared.taken.Taken.{Taken}
-use Rattle.tk_admit.specs.Names.{all_names, names_of, owners}
+use Rattle.tk_journal.specs.Names.{task_run_names}
+use Rattle.tk_admit.specs.Names.{all_names, owners}
 use Rattle.tk_admit.proofs.Owners.{clash_owned, clash_told, gathered_more}
 use Rattle.tk_admit.proofs.clashes.check_clashes.Goals as goal
 
@@ -15,8 +16,8 @@ loop-run-preserved c =
     let run = c.run-item.result in
     let before : List Place = map (λ (p : Bor Place). p.now) c.loop-run.owners.items in
     let after : List Place = map (λ (p : Bor Place). p.now) c.add_run.new.owners.items in (
-      gathered_more (λ (r : Taken). names_of r.spec) runs i run c.loop-run.names c.add_run.new.names c.loop-run-test.true c.run-item.is c.loop-run.invariant.0 c.in_ok-add_run.ensures.names,
-      gathered_more (λ (r : Taken). map (λ (name : List ℕ). r.place) (names_of r.spec)) runs i run before after c.loop-run-test.true c.run-item.is c.loop-run.invariant.1 c.in_ok-add_run.ensures.owners,
+      gathered_more (λ (r : Taken). task_run_names r.spec) runs i run c.loop-run.names c.add_run.new.names c.loop-run-test.true c.run-item.is c.loop-run.invariant.0 c.in_ok-add_run.ensures.names,
+      gathered_more (λ (r : Taken). map (λ (name : List ℕ). r.place) (task_run_names r.spec)) runs i run before after c.loop-run-test.true c.run-item.is c.loop-run.invariant.1 c.in_ok-add_run.ensures.owners,
     )
 
 pub clashing-requires-clause-earlier : goal.clashing-requires-clause-earlier

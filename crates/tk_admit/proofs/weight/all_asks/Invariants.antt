@@ -1,5 +1,5 @@
 use Rattle.std.proofs.Common.{◌≡◌, sum_by, take}
-use Rattle.tk_resolve.specs.Possible.{told_count}
+use Rattle.tk_early.specs.Possible.{told_count}
 use Rattle.tk_admit.specs.Weight.{asks_of}
 use Rattle.tk_admit.proofs.weight.all_asks.Given as goal
 

@@ -1,7 +1,7 @@
 use Rattle.std.proofs.Common.{◌≡◌, sum_by, take}
-use Rattle.tk_resolve.specs.Possible.{told_count}
+use Rattle.tk_early.specs.Possible.{told_count}
 use Rattle.tk_admit.specs.declared.taken.Taken.{Taken}
-use Rattle.tk_admit.specs.Weight.{run_weight}
+use Rattle.tk_journal.specs.Weight.{run_weight}
 use Rattle.tk_admit.proofs.weight.runs_weight.Given as goal
 
 -- the weight of the runs so far

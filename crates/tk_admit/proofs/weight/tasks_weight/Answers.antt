@@ -6,10 +6,10 @@ use Rattle.std.proofs.lemmas.Iterator.Consumers.{YieldsList-end, YieldsList-from
 use Rattle.tk_types.specs.declared.task.PipelineTask.{PipelineTask}
 use Rattle.tk_types.specs.declared.task.TaskBody.{TaskBody}
 use Rattle.tk_bind.specs.Readings.{ReadsPipelineTask}
-use Rattle.tk_resolve.specs.Possible.{told_count}
+use Rattle.tk_early.specs.Possible.{told_count}
 use Rattle.tk_resolve.proofs.Zipped.{all_firsts}
-use Rattle.tk_admit.specs.Objects.{tasks_of}
-use Rattle.tk_admit.specs.Weight.{task_weight}
+use Rattle.tk_types.specs.Behaviour.{tasks_of}
+use Rattle.tk_journal.specs.Weight.{task_weight}
 use Rattle.tk_admit.proofs.Told.{told_more}
 use Rattle.tk_admit.proofs.weight.tasks_weight.Goals as goal
 

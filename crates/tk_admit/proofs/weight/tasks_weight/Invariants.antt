@@ -1,8 +1,8 @@
 use Rattle.std.proofs.Common.{◌≡◌, length, sum_by, take}
 use Rattle.std.specs.List.{zip}
-use Rattle.tk_resolve.specs.Possible.{told_count}
-use Rattle.tk_admit.specs.Objects.{tasks_of}
-use Rattle.tk_admit.specs.Weight.{task_weight}
+use Rattle.tk_early.specs.Possible.{told_count}
+use Rattle.tk_types.specs.Behaviour.{tasks_of}
+use Rattle.tk_journal.specs.Weight.{task_weight}
 use Rattle.tk_admit.proofs.weight.tasks_weight.Given as goal
 
 -- the weight of the tasks so far
