@@ -10,6 +10,7 @@ use Rattle.tk_edge.specs.declared.event.Event.TheVariants as events
 use Rattle.tk_edge.specs.declared.event.Arming.{Arming}
 use Rattle.tk_edge.specs.declared.order.Order.{Order}
 use Rattle.tk_edge.specs.declared.host_log.ChildLog.{ChildLog}
+use Rattle.tk_edge.specs.Files.{broken}
 use Rattle.tk_edge.specs.History.{names}
 use Rattle.tk_edge.specs.Memory.{is_named}
 use Rattle.tk_edge.specs.HostLog.{counts, flags, blank, entry, IsIndexed, IsWhole}
@@ -77,12 +78,20 @@ new_known told children c e i named other below =
       | inr least ↦ absurd (differ (omega arith))
     ]
 
+-- the entry of a child that is armed
+abbrev armed_log : Arming → List ℕ → ChildLog
+armed_log arming failed = record blank { armed = Some arming; failed = Some failed }
+
 -- the new child is armed
-pub indexed_armed : (told : List Event) (children : List ChildLog) (arming : Arming) → IsIndexed told children → IsIndexed (events.Armed (length children) arming ∷ told) (children ++ (record blank { armed = Some arming }) ∷ [])
+pub indexed_armed : (told : List Event) (children : List ChildLog) (arming : Arming) → IsIndexed told children → IsIndexed (events.Armed (length children) arming ∷ told) (children ++ (armed_log arming (broken arming.wait)) ∷ [])
 indexed_armed told children arming i = record {
   armings = λ other. elim (eqb_tells other (length children)) [
     | inl hit ↦ rw hit.0 (sym (ap (λ (e : ChildLog). e.armed) (at other hit.0)))
     | inr miss ↦ rw miss.0 (i.armings other ∙ sym (ap (λ (e : ChildLog). e.armed) (away other miss.0)))
+  ];
+  failures = λ other. elim (eqb_tells other (length children)) [
+    | inl hit ↦ rw hit.0 (sym (ap (λ (e : ChildLog). e.failed) (at other hit.0)))
+    | inr miss ↦ rw miss.0 (i.failures other ∙ sym (ap (λ (e : ChildLog). e.failed) (away other miss.0)))
   ];
   starts = λ other. elim (eqb_tells other (length children)) [
     | inl hit ↦ i.starts other ∙ ap (λ (e : ChildLog). e.started) (past other hit.1) ∙ sym (ap (λ (e : ChildLog). e.started) (at other hit.0))
@@ -101,7 +110,7 @@ indexed_armed told children arming i = record {
 }
   where
     c : ChildLog
-    c = record blank { armed = Some arming }
+    c = armed_log arming (broken arming.wait)
 
     at : (other : ℕ) → nat_eq other (length children) ≡ true → entry (children ++ c ∷ []) other ≡ c
     at other hit = push_at children c blank other ∙ rw hit refl
@@ -118,6 +127,10 @@ indexed_started told children order i = record {
   armings = λ other. elim (eqb_tells other (length children)) [
     | inl hit ↦ i.armings other ∙ ap (λ (e : ChildLog). e.armed) (past other hit.1) ∙ sym (ap (λ (e : ChildLog). e.armed) (at other hit.0))
     | inr miss ↦ i.armings other ∙ sym (ap (λ (e : ChildLog). e.armed) (away other miss.0))
+  ];
+  failures = λ other. elim (eqb_tells other (length children)) [
+    | inl hit ↦ i.failures other ∙ ap (λ (e : ChildLog). e.failed) (past other hit.1) ∙ sym (ap (λ (e : ChildLog). e.failed) (at other hit.0))
+    | inr miss ↦ i.failures other ∙ sym (ap (λ (e : ChildLog). e.failed) (away other miss.0))
   ];
   starts = λ other. elim (eqb_tells other (length children)) [
     | inl hit ↦ rw hit.0 (sym (ap (λ (e : ChildLog). e.started) (at other hit.0)))
@@ -153,11 +166,13 @@ grow now xs children after x c longer grows same =
     let others = length-append children (c ∷ []) in
     rw (longer, grows) (omega (arith, ones, others, same))
 
-pub armed_index : (told now : List Event) (children after : List ChildLog) (watches later : List ℕ) (killed marks : List Bool) (child : ℕ) (arming kept : Arming) → IsWhole (reverse told) children killed watches → now ≡ told ++ events.Armed child arming ∷ [] → child ≡ length children → kept ≡ arming → after ≡ children ++ (record blank { armed = Some kept }) ∷ [] → marks ≡ killed ++ false ∷ [] → later ≡ watches ++ 0 ∷ [] → IsWhole (reverse now) after marks later
-armed_index told now children after watches later killed marks child arming kept i tells number copied grows marked counted =
-    let index : IsIndexed (events.Armed child arming ∷ reverse told) (children ++ (record blank { armed = Some kept }) ∷ []) =
-    subst (λ (n : ℕ). IsIndexed (events.Armed n arming ∷ reverse told) (children ++ (record blank { armed = Some kept }) ∷ [])) (sym number)
-    (subst (λ (a : Arming). IsIndexed (events.Armed (length children) arming ∷ reverse told) (children ++ (record blank { armed = Some a }) ∷ [])) (sym copied) (indexed_armed (reverse told) children arming i.index)) in
+pub armed_index : (told now : List Event) (children after : List ChildLog) (watches later : List ℕ) (killed marks : List Bool) (child : ℕ) (arming kept : Arming) (failed : List ℕ) → IsWhole (reverse told) children killed watches → now ≡ told ++ events.Armed child arming ∷ [] → child ≡ length children → kept ≡ arming → failed ≡ broken kept.wait → after ≡ children ++ (armed_log kept failed) ∷ [] → marks ≡ killed ++ false ∷ [] → later ≡ watches ++ 0 ∷ [] → IsWhole (reverse now) after marks later
+armed_index told now children after watches later killed marks child arming kept failed i tells number copied made grows marked counted =
+    let copy : IsIndexed (events.Armed (length children) arming ∷ reverse told) (children ++ (armed_log kept (broken kept.wait)) ∷ []) =
+    subst (λ (a : Arming). IsIndexed (events.Armed (length children) arming ∷ reverse told) (children ++ (armed_log a (broken a.wait)) ∷ [])) (sym copied) (indexed_armed (reverse told) children arming i.index) in
+    let index : IsIndexed (events.Armed child arming ∷ reverse told) (children ++ (armed_log kept failed) ∷ []) =
+    subst (λ (n : ℕ). IsIndexed (events.Armed n arming ∷ reverse told) (children ++ (armed_log kept failed) ∷ [])) (sym number)
+    (subst (λ (f : List ℕ). IsIndexed (events.Armed (length children) arming ∷ reverse told) (children ++ (armed_log kept f) ∷ [])) (sym made) copy) in
     record {
       index = rw (tells, reverse-append, grows) index;
       marked = grow marks killed children after false _ marked grows i.marked;

@@ -40,9 +40,13 @@ abbrev pub FindsPoll : ℕ → Option ℕ → List Event → List Event → Poll
 FindsPoll child kept old new polls.Runs = (kept ≡ None) × (exit_of child old ≡ None) × (new ≡ old)
 FindsPoll child kept old new (polls.Exited exit) = FindsExit child kept exit old new
 
+-- the file of a step that passes, or of one that doesn't
+abbrev pub post_for : Bool → Armed → List ℕ
+post_for passed armed = if passed then armed.post else broken armed.post
+
 -- the file that is left behind an exit
 abbrev pub left_file : Armed → ℕ → List ℕ
-left_file armed exit = if passes armed.keep_going exit then armed.post else broken armed.post
+left_file armed exit = post_for (passes armed.keep_going exit) armed
 
 -- the history behind a put of the exit at the note's path, where there is one
 abbrev pub noted : Option (List ℕ) → ℕ → List Event → List Event

@@ -31,3 +31,9 @@ FitsMarkers arming told files _ = Unit {0}
 abbrev pub FollowsMarkers : ℕ → Bool → List Event → Option Files → Watch → Type 0
 FollowsMarkers child killed told files watch =
     StillWaits child told → killed ≡ false → WhereTold files (λ f. Has (arming_of child told) (λ arming. FitsMarkers arming told f watch))
+
+-- an armed child whose turn can only wait
+pub record OnlyWaits (child : ℕ) (told : List Event) (files : Option Files) : Type 0 where
+  pub waits : StillWaits child told
+  pub no_exit : exit_of child told ≡ None
+  pub files_say : WhereTold files (λ f. Has (arming_of child told) (λ arming. FitsMarkers arming told f watches.Waits))

@@ -1,5 +1,5 @@
 -- The files of a host in memory, and what it answers, by its history.
-use Rattle.std.specs.Prelude.{ℕ, Bool, true, false, ◌||◌, ◌&&◌, bytes_eq, if◌then◌else◌, List, [], ◌∷◌, Option, Some, None}
+use Rattle.std.specs.Prelude.{◌≡◌, ℕ, Bool, true, false, ◌||◌, ◌&&◌, bytes_eq, if◌then◌else◌, List, [], ◌∷◌, Option, Some, None}
 use Rattle.tk_edge.specs.declared.event.Arming.{Arming}
 use Rattle.tk_edge.specs.declared.event.Event.{Event}
 use Rattle.tk_edge.specs.declared.event.Event.TheVariants as events
@@ -46,6 +46,14 @@ abbrev pub HasEnded : Watch → Type 0
 HasEnded (watches.Passed exit) = Unit {0}
 HasEnded (watches.Broke (Some exit)) = Unit {0}
 HasEnded _ = ⊥
+
+-- what is found in a history once an event came behind it
+abbrev pub FollowsBehind : {X : Type 0} → (List Event → X) → List Event → Event → X → X → Type 0
+FollowsBehind find older e found now = find older ≡ found → find (e ∷ older) ≡ now
+
+-- the same behind each history
+abbrev pub Follows : {X : Type 0} → (List Event → X) → Event → X → X → Type 0
+Follows find e found now = (older : List Event) → FollowsBehind find older e found now
 
 -- an entry of the pod with this post file passed
 abbrev pub has_passed_with : List ℕ → List ℕ → Option Arming → Option ℕ → Bool

@@ -1,14 +1,15 @@
-ghost use Rattle.std.specs.Prelude.{◌≡◌, ◌⊎◌, ℕ, List, ◌∷◌, [], Option, Some, None, OnOk, OnErr, IfOk, true, false, if◌then◌else◌};
+ghost use Rattle.std.specs.Prelude.{◌≡◌, ◌⊎◌, ℕ, List, ◌∷◌, [], Option, Some, None, OnOk, OnErr, IfOk, true, false};
 ghost use Rattle.tk_edge.specs.declared.event.Event.TheVariants.{Put};
 ghost use Rattle.tk_edge.specs.Causes.{Counts};
-ghost use Rattle.tk_edge.specs.Armed.{TurnGives, FindsPoll, Looks, is_over, noted, Posts, MissesPut, MissesNote, MissesPosts, IsPostFile, IsTurnFile};
-ghost use Rattle.tk_edge.specs.Files.{MayChange, broken as broken_of};
+ghost use Rattle.tk_edge.specs.Armed.{TurnGives, FindsPoll, Looks, is_over, noted, post_for, Posts, MissesPut, MissesNote, MissesPosts, IsPostFile, IsTurnFile};
+ghost use Rattle.tk_edge.specs.Files.{MayChange};
 ghost use Rattle.tk_edge.specs.Markers.{IsPolledFile};
 
 use crate::host::Host;
 use crate::miss::Miss;
 use crate::order::{Order, Poll, Watch};
 use crate::texts::broken;
+use crate::wait_file::WaitFile;
 use std::alloc::Global;
 use tk_types::Text;
 
@@ -16,7 +17,7 @@ use tk_types::Text;
 #[derive(Drop)]
 pub struct Armed {
     pub order: Order,
-    pub wait: Text,
+    pub wait: WaitFile,
     pub post: Text,
     pub keep_going: bool,
     pub note: Option<Text>,
@@ -26,7 +27,8 @@ pub struct Armed {
 }
 
 /// One turn of an entrypoint. It looks for its wait file with `.err` and then for the wait file, and starts its order
-/// behind the latter; once started, it polls its child, and posts how that ended.
+/// behind the latter; once started, it polls its child, and posts how that ended. The turns that wait take memory for
+/// their paths only the first time.
 #[tactic(auto, using(crate::proofs::Turns::may_same))]
 pub fn armed_turn<H: Host>(alloc: Global, host: &mut H, armed: &mut Armed) -> Result<Watch, Miss>
     ensures turn { TurnGives armed.old armed.new (H.told host.old) (H.told host.new) (H.files host.old) result }
@@ -54,8 +56,7 @@ fn first_turn<H: Host>(alloc: Global, host: &mut H, armed: &mut Armed) -> Result
     ensures watches { H.watches host.new ≡ H.watches host.old }
     ensures count { Counts (H.faults host.old) (H.faults host.new) result }
 {
-    let failed = broken(alloc, armed.wait.as_str())?;
-    if host.look(failed.as_str())? {
+    if armed.wait.look_failed(alloc, host)? {
         put_post(alloc, host, armed, false)?;
         armed.last = Some(Watch::Broke { exit: None });
         return Ok(Watch::Broke { exit: None });
@@ -129,8 +130,8 @@ fn post_exit<H: Host>(
     exit: u8,
     passed: bool,
 ) -> Result<(), Miss>
-    ensures posted { OnOk result (Posts armed.now.note exit (if passed then armed.now.post else broken_of armed.now.post) (H.told host.old) (H.told host.new)) }
-    ensures missed { OnErr result (MissesPosts armed.now.note exit (if passed then armed.now.post else broken_of armed.now.post) (H.told host.old) (H.told host.new)) }
+    ensures posted { OnOk result (Posts armed.now.note exit (post_for passed armed.now) (H.told host.old) (H.told host.new)) }
+    ensures missed { OnErr result (MissesPosts armed.now.note exit (post_for passed armed.now) (H.told host.old) (H.told host.new)) }
     ensures others { MayChange (λ path. IsPostFile armed.now path ⊎ (armed.now.note ≡ Some path)) (H.files host.old) (H.files host.new) }
     ensures killed { H.killed host.new ≡ H.killed host.old }
     ensures watches { H.watches host.new ≡ H.watches host.old }
@@ -160,8 +161,8 @@ fn put_note<H: Host>(alloc: Global, host: &mut H, note: &Option<Text>, exit: u8)
 // Puts the post file, with `.err` where the step doesn't pass.
 #[tactic(auto, using(crate::proofs::Turns::put_missed, crate::proofs::Turns::may_same, crate::proofs::Turns::puts_one))]
 fn put_post<H: Host>(alloc: Global, host: &mut H, armed: &Armed, passed: bool) -> Result<(), Miss>
-    ensures put { OnOk result (H.told host.new ≡ Put (if passed then armed.now.post else broken_of armed.now.post) [] true ∷ H.told host.old) }
-    ensures missed { OnErr result (MissesPut (if passed then armed.now.post else broken_of armed.now.post) [] (H.told host.old) (H.told host.new)) }
+    ensures put { OnOk result (H.told host.new ≡ Put (post_for passed armed.now) [] true ∷ H.told host.old) }
+    ensures missed { OnErr result (MissesPut (post_for passed armed.now) [] (H.told host.old) (H.told host.new)) }
     ensures others { MayChange (IsPostFile armed.now) (H.files host.old) (H.files host.new) }
     ensures killed { H.killed host.new ≡ H.killed host.old }
     ensures watches { H.watches host.new ≡ H.watches host.old }

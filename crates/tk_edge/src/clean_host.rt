@@ -1,4 +1,4 @@
-ghost use Rattle.std.specs.Prelude.{bytes_eq, slice_index_or, Err, MatchResult, take, true, false, ◌≡◌, ◌↔◌, ◌≤◌, ◌+◌, ℕ, List, [], ◌∷◌, reverse, Option, Some, None, option_map, OnOk, OnErr, IfOk, IsTrue, string_bytes, ◌<◌};
+ghost use Rattle.std.specs.Prelude.{bytes_eq, slice_index_or, Err, Ok, MatchResult, take, true, false, ◌≡◌, ◌↔◌, ◌≤◌, ◌+◌, ℕ, List, [], ◌∷◌, reverse, Option, Some, None, option_map, OnOk, OnErr, IfOk, IsTrue, string_bytes, ◌<◌};
 ghost use Rattle.tk_edge.specs.History.{Has, IsNew, HasPassed, MayStart, exit_of, order_of, arming_of, is_refused, was_put};
 ghost use Rattle.std.specs.Option.{is_some};
 ghost use Rattle.tk_edge.specs.declared.miss.Miss.TheVariants.{Memory};
@@ -6,25 +6,24 @@ ghost use Rattle.tk_edge.specs.declared.event.Event.TheVariants.{Exited};
 ghost use Rattle.tk_edge.specs.Calls.{TellsExit, TellsWatch, arming_with};
 ghost use Rattle.tk_edge.specs.HostLog.{counts, flags};
 ghost use Rattle.tk_edge.specs.declared.order.Watch.TheVariants as shown;
-ghost use Rattle.tk_edge.specs.declared.event.Event.{Event as AnEvent};
 ghost use Rattle.tk_pod.specs.Exits.{passes as has_passed};
 ghost use Rattle.tk_edge.specs.Files.{is_under, MayChange};
 ghost use Rattle.tk_edge.specs.Causes.{Counts, CountsWatch};
-ghost use Rattle.tk_edge.specs.Memory.{file_of, files_of, ended_watch, leaves, child_passed, some_passed, HasEnded};
-ghost use Rattle.tk_edge.specs.Markers.{Stands, FollowsMarkers, IsFileOf};
+ghost use Rattle.tk_edge.specs.Memory.{file_of, files_of, ended_watch, leaves, child_passed, some_passed, Follows, FollowsBehind, HasEnded};
+ghost use Rattle.tk_edge.specs.Markers.{Stands, FollowsMarkers, IsFileOf, OnlyWaits};
 
 use crate::event::{Arming, Event};
 use crate::host::Host;
 use crate::host_log::HostLog;
 use crate::miss::{Failed, Miss};
 use crate::order::{Order, Poll, Watch};
-use crate::texts::{broken, bytes_of, is_broken, is_under};
+use crate::texts::{bytes_of, is_broken, is_under};
 use std::alloc::{AllocError, Global};
 use tk_types::{Bytes, Text, TryCopy};
 
 /// A host in memory that never fails: its count of faults is always 0, so no call answers `Miss::Failed`. Its files are
 /// those that its history leaves. Each child ends at its first poll or at the first watch behind its start, with one
-/// exit for all.
+/// exit for all. A watch that only waits takes no memory, so it always answers.
 #[derive(Drop)]
 pub struct CleanHost {
     alloc: Global,
@@ -50,7 +49,7 @@ impl CleanHost {
 
 /// The exit of the child once this event came, too.
 fn exit_after(event: &Event, child: u64, found: Option<u8>) -> Option<u8>
-    ensures { (older : List AnEvent) → exit_of child older ≡ found → exit_of child (event.now ∷ older) ≡ result }
+    ensures { Follows (exit_of child) event.now found result }
 {
     match event {
         Event::Exited { child: other, exit } if child == *other => Some(*exit),
@@ -88,7 +87,7 @@ fn file_after<'a>(
     path: &str,
     found: Option<&'a [u8]>,
 ) -> Option<&'a [u8]>
-    ensures { file_of path.now (reverse older.now) ≡ option_map (λ b. b.now) found.entry → file_of path.now (event.now ∷ reverse older.now) ≡ option_map (λ b. b.now) result }
+    ensures { FollowsBehind (file_of path.now) (reverse older.now) event.now (option_map (λ b. b.now) found.entry) (option_map (λ b. b.now) result) }
 {
     match event {
         Event::Put {
@@ -127,7 +126,7 @@ fn file_in<'a>(events: &'a [Event], path: &str) -> Option<&'a [u8]>
 
 /// Whether the path was put once this event came, too.
 fn put_after(event: &Event, path: &str, found: bool) -> bool
-    ensures { (older : List AnEvent) → was_put path.now older ≡ found → was_put path.now (event.now ∷ older) ≡ result }
+    ensures { Follows (was_put path.now) event.now found result }
 {
     match event {
         Event::Put {
@@ -156,7 +155,7 @@ pub(crate) fn put_in(events: &[Event], path: &str) -> bool
 
 /// What the child was armed with once this event came, too.
 fn arming_after<'a>(event: &'a Event, child: u64, found: Option<&'a Arming>) -> Option<&'a Arming>
-    ensures { (older : List AnEvent) → arming_of child older ≡ option_map (λ a. a.now) found.entry → arming_of child (event.now ∷ older) ≡ option_map (λ a. a.now) result }
+    ensures { Follows (arming_of child) event.now (option_map (λ a. a.now) found.entry) (option_map (λ a. a.now) result) }
 {
     match event {
         Event::Armed {
@@ -201,7 +200,7 @@ fn child_passed(events: &[Event], child: u64, pod: &Text, path: &Text) -> bool
 
 /// Whether one of the entries so far passed, and with this event.
 fn passed_after(events: &[Event], event: &Event, pod: &Text, path: &Text, found: bool) -> bool
-    ensures { (older : List AnEvent) → some_passed pod.now path.now (reverse events.now) older ≡ found → some_passed pod.now path.now (reverse events.now) (event.now ∷ older) ≡ result }
+    ensures { Follows (some_passed pod.now path.now (reverse events.now)) event.now found result }
 {
     match event {
         Event::Armed { child, .. } => child_passed(events, *child, pod, path) || found,
@@ -296,6 +295,7 @@ impl CleanHost {
         ensures told { TellsWatch child self.old.log.told self.new.log.told result }
         ensures alive { IfOk result (λ watch. watch ≡ shown.Started → flags self.old.log.killed child ≡ false) }
         ensures markers { IfOk result (FollowsMarkers child (flags self.old.log.killed child) self.old.log.told (Some (files_of self.old.log.told))) }
+        ensures ready { OnlyWaits child self.old.log.told (Some (files_of self.old.log.told)) → result ≡ Ok shown.Waits }
         ensures ends { IfOk result (λ watch. is_some (order_of child self.old.log.told) ≡ true → HasEnded watch) }
         ensures others { MayChange (IsFileOf child self.old.log.told) (Some (files_of self.old.log.told)) (Some (files_of self.new.log.told)) }
         ensures killed { self.new.log.killed ≡ self.old.log.killed }
@@ -319,7 +319,9 @@ impl CleanHost {
         if self.log.is_killed(child) {
             return Ok(Watch::Waits);
         }
-        let failed = broken(self.alloc, arming.wait.as_str())?;
+        let Some(failed) = self.log.failed_wait(child) else {
+            return Err(Miss::Memory);
+        };
         if self.stands(failed.as_str()) {
             self.log.make_room()?;
             self.log.refused(child);
@@ -405,9 +407,12 @@ impl Host for CleanHost {
         requires { Has (arming_of child (⟦<CleanHost as Host>⟧.told self.old)) (λ _. Unit {0}) }
         ensures told { TellsWatch child (⟦<CleanHost as Host>⟧.told self.old) (⟦<CleanHost as Host>⟧.told self.new) result }
         ensures alive { IfOk result (λ watch. watch ≡ shown.Started → ⟦<CleanHost as Host>⟧.killed self.old child ≡ false) }
-        ensures markers { IfOk result (FollowsMarkers child (⟦<CleanHost as Host>⟧.killed self.old child) (⟦<CleanHost as Host>⟧.told self.old) (⟦<CleanHost as Host>⟧.files self.old)) }
+        ensures markers { IfOk result (FollowsMarkers child (⟦<CleanHost as Host>⟧.killed self.old child)
+            (⟦<CleanHost as Host>⟧.told self.old) (⟦<CleanHost as Host>⟧.files self.old)) }
+        ensures ready { OnlyWaits child (⟦<CleanHost as Host>⟧.told self.old) (⟦<CleanHost as Host>⟧.files self.old) → result ≡ Ok shown.Waits }
         ensures ends { IfOk result (λ watch. is_some (order_of child (⟦<CleanHost as Host>⟧.told self.old)) ≡ true → HasEnded watch) }
-        ensures others { MayChange (IsFileOf child (⟦<CleanHost as Host>⟧.told self.old)) (⟦<CleanHost as Host>⟧.files self.old) (⟦<CleanHost as Host>⟧.files self.new) }
+        ensures others { MayChange (IsFileOf child (⟦<CleanHost as Host>⟧.told self.old))
+            (⟦<CleanHost as Host>⟧.files self.old) (⟦<CleanHost as Host>⟧.files self.new) }
         ensures killed { ⟦<CleanHost as Host>⟧.killed self.new ≡ ⟦<CleanHost as Host>⟧.killed self.old }
         ensures watches { CountsWatch child (⟦<CleanHost as Host>⟧.watches self.old) (⟦<CleanHost as Host>⟧.watches self.new) result }
         ensures count { Counts (⟦<CleanHost as Host>⟧.faults self.old) (⟦<CleanHost as Host>⟧.faults self.new) result }

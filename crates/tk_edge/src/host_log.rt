@@ -6,19 +6,21 @@ ghost use Rattle.tk_edge.specs.declared.event.Event.TheVariants.{Put, Cleared, F
 ghost use Rattle.tk_edge.specs.Causes.{IsWatchedOnce};
 ghost use Rattle.tk_edge.specs.Calls.{MarksKilled};
 ghost use Rattle.tk_edge.specs.History.{IsNew, HasPassed, MayStart, arming_of, order_of, exit_of, is_refused, was_put};
-ghost use Rattle.tk_edge.specs.HostLog.{counts, flags};
+ghost use Rattle.tk_edge.specs.HostLog.{counts, failed_wait, flags};
 
 use crate::clean_host::{passes, put_in};
 use crate::event::{Arming, Event};
 use crate::order::Order;
+use crate::texts::broken;
 use std::alloc::{AllocError, Global};
 use std::marker::Model;
 use tk_types::{Bytes, Text, TryCopy};
 
-/// What the history says of one child, whose number is its place.
+/// What the history says of one child, whose number is its place, and the wait file with `.err` of one that is armed.
 #[derive(Drop)]
 pub struct ChildLog {
     pub armed: Option<Arming>,
+    pub failed: Option<Text>,
     pub started: bool,
     pub exit: Option<u8>,
     pub refused: bool,
@@ -97,6 +99,16 @@ impl HostLog {
     {
         match self.children.get(child as usize) {
             Some(entry) => entry.armed.as_ref(),
+            None => None,
+        }
+    }
+
+    /// The child's wait file with `.err`, made when it was armed. It takes no memory.
+    pub fn failed_wait(&self, child: u64) -> Option<&Text>
+        ensures { option_map (λ t. t.now) result ≡ failed_wait (arming_of child self.now.told) }
+    {
+        match self.children.get(child as usize) {
+            Some(entry) => entry.failed.as_ref(),
             None => None,
         }
     }
@@ -205,12 +217,14 @@ impl HostLog {
     {
         self.make_room()?;
         let kept = arming.copy(alloc)?;
+        let failed = broken(alloc, kept.wait.as_str())?;
         let child = self.count();
         push_within(&mut self.events, Event::Armed { child, arming });
         push_within(
             &mut self.children,
             ChildLog {
                 armed: Some(kept),
+                failed: Some(failed),
                 started: false,
                 exit: None,
                 refused: false,
@@ -239,6 +253,7 @@ impl HostLog {
             &mut self.children,
             ChildLog {
                 armed: None,
+                failed: None,
                 started: true,
                 exit: None,
                 refused: false,
@@ -350,7 +365,7 @@ impl HostLog {
     pub fn may_start(&self, arming: &Arming) -> bool
         ensures { IsTrue result → MayStart arming.now self.now.told }
     {
-        self.was_put(arming.wait.as_str()) || self.some_passed(&arming.order.pod, &arming.wait)
+        self.some_passed(&arming.order.pod, &arming.wait) || self.was_put(arming.wait.as_str())
     }
 }
 

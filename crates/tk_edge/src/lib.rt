@@ -38,6 +38,7 @@ mod system;
 #[cfg(test)]
 mod tests;
 mod texts;
+mod wait_file;
 
 pub use armed::{Armed, armed_turn};
 pub use clean::{CleanSink, CleanSource};
@@ -60,3 +61,4 @@ pub use source::Source;
 pub use stream::{ReadSource, WriteSink};
 pub use system::SystemClock;
 pub use texts::{broken, bytes_of, is_under};
+pub use wait_file::WaitFile;

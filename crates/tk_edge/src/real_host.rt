@@ -31,7 +31,7 @@ struct Step<P: OpenProcess> {
     found: Option<u8>,
 }
 
-/// The machine's folders, files and programs.
+/// The machine's folders, files and programs. A watch that only waits takes no memory.
 pub struct RealHost<'a, R: Processes> {
     rt: &'a R,
     alloc: Global,
@@ -283,12 +283,12 @@ enum Wait {
     Stands,
 }
 
-fn look_for_wait<R: Files>(rt: &R, alloc: Global, arming: &Arming) -> Result<Wait, Miss> {
-    let failed = broken(alloc, arming.wait.as_str())?;
+// It takes no memory.
+fn look_for_wait<R: Files>(rt: &R, wait: &Text, failed: &Text) -> Result<Wait, Miss> {
     if is_plain(rt, failed.as_str())? {
         return Ok(Wait::Broke);
     }
-    if is_plain(rt, arming.wait.as_str())? {
+    if is_plain(rt, wait.as_str())? {
         Ok(Wait::Stands)
     } else {
         Ok(Wait::Missing)
@@ -306,10 +306,11 @@ impl<'a, R: Processes + Files> RealHost<'a, R> {
         ensures children { self.new.log.count ≡ self.old.log.count }
         ensures count { Counts self.old.faults self.new.faults result }
     {
-        let Some(arming) = self.log.arming(child) else {
+        let (Some(arming), Some(failed)) = (self.log.arming(child), self.log.failed_wait(child))
+        else {
             return self.fail();
         };
-        match look_for_wait(self.rt, self.alloc, arming) {
+        match look_for_wait(self.rt, &arming.wait, failed) {
             Ok(Wait::Missing) => Ok(Watch::Waits),
             Ok(Wait::Broke) => self.refuse(child),
             Ok(Wait::Stands) => {

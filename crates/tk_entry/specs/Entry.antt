@@ -42,6 +42,9 @@ pub record Seen : Type 0 where
   pub faults : ℕ
   pub faults_now : ℕ
 
+abbrev pub seen_of : List Event → List Event → ℕ → ℕ → Seen
+seen_of told now faults faults_now = record { told = told; now = now; faults = faults; faults_now = faults_now }
+
 -- a turn in which no call on the host failed
 pub record Answered (old new : Entry) (seen : Seen) (files : Option Files) (turn : Turn) : Type 0 where
   pub not_failed : old.failed ≡ false

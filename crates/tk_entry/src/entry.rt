@@ -2,11 +2,11 @@ ghost use Rattle.std.specs.Prelude.{◌≡◌, None, Ok, IfOk, OnErr, true};
 ghost use Rattle.tk_edge.specs.Armed.{IsTurnFile};
 ghost use Rattle.tk_edge.specs.Files.{MayChange};
 ghost use Rattle.tk_entry.specs.declared.entry.Turn.TheVariants.{HostFault};
-ghost use Rattle.tk_entry.specs.Entry.{first_entry, turn_of as turn_of_watch, with_note, EntryAnswers, EntryMissed};
+ghost use Rattle.tk_entry.specs.Entry.{first_entry, turn_of as turn_of_watch, with_note, seen_of, EntryAnswers, EntryMissed};
 
 use std::alloc::{AllocError, Global};
 use std::marker::Model;
-use tk_edge::{Armed, Host, Miss, Order, Watch, armed_turn};
+use tk_edge::{Armed, Host, Miss, Order, WaitFile, Watch, armed_turn};
 use tk_types::Text;
 
 /// What one turn of an entrypoint gave.
@@ -50,7 +50,7 @@ impl EntryPoint {
         EntryPoint {
             armed: Armed {
                 order,
-                wait,
+                wait: WaitFile::new(wait),
                 post,
                 keep_going,
                 note: None,
@@ -76,8 +76,8 @@ impl EntryPoint {
     /// turn, nothing is started. The only error is want of memory, behind which no order was started either.
     #[tactic(auto, using(crate::proofs::Unchanged::may_same))]
     pub fn turn<H: Host>(&mut self, alloc: Global, host: &mut H) -> Result<Turn, AllocError>
-        ensures turn { IfOk result (EntryAnswers self.old self.new record { told = H.told host.old; now = H.told host.new; faults = H.faults host.old; faults_now = H.faults host.new } (H.files host.old)) }
-        ensures memory { OnErr result (EntryMissed self.old self.new record { told = H.told host.old; now = H.told host.new; faults = H.faults host.old; faults_now = H.faults host.new }) }
+        ensures turn { IfOk result (EntryAnswers self.old self.new (seen_of (H.told host.old) (H.told host.new) (H.faults host.old) (H.faults host.new)) (H.files host.old)) }
+        ensures memory { OnErr result (EntryMissed self.old self.new (seen_of (H.told host.old) (H.told host.new) (H.faults host.old) (H.faults host.new))) }
         ensures others { MayChange (IsTurnFile self.old.armed (H.told host.old)) (H.files host.old) (H.files host.new) }
         ensures killed { H.killed host.new ≡ H.killed host.old }
         ensures watches { H.watches host.new ≡ H.watches host.old }

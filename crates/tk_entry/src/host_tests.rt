@@ -4,7 +4,7 @@ ghost use Rattle.tk_entry.specs.Armed.{IsArmed};
 
 use std::alloc::{AllocError, Global};
 use std::test::Fail;
-use tk_edge::{Armed, CleanHost, Host, Miss, Order, Poll, Watch, armed_turn};
+use tk_edge::{Armed, CleanHost, Host, Miss, Order, Poll, WaitFile, Watch, armed_turn};
 use tk_types::{List, Text};
 
 fn order(alloc: Global, step: u32) -> Result<Order, AllocError> {
@@ -110,7 +110,7 @@ fn each_call_of_a_host_answers(rt: HostRuntime) -> Result<(), Fail> {
 fn turns(alloc: Global, host: &mut CleanHost, note: Option<Text>) -> Result<[Watch; 3], Miss> {
     let mut armed = Armed {
         order: order(alloc, 0)?,
-        wait: Text::from_str(alloc, "/run/start")?,
+        wait: WaitFile::new(Text::from_str(alloc, "/run/start")?),
         post: Text::from_str(alloc, "/run/0")?,
         keep_going: false,
         note,

@@ -4,6 +4,8 @@
 //! longer as its history grows.
 #![tactic(auto)]
 
+#[cfg(test)]
+mod entry_tests;
 mod file_table;
 mod pod_script;
 mod script_host;

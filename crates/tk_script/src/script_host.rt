@@ -258,6 +258,7 @@ impl Host for ScriptHost {
         ensures count { Counts self.old.faults self.new.faults result }
         ensures scripted { IsErrOf result Fails ↔ Contains self.old.failing self.old.calls }
         ensures exact { IfOk result (IsScripted self.old.scripts (flags self.old.log.killed child) child self.old.log.told) }
+        ensures memory { result ≡ Err Memory → IsScripted self.old.scripts (flags self.old.log.killed child) child self.old.log.told shown.Waits → ⊥ }
         ensures counted { self.new.calls ≡ min (self.old.calls + 1) (2 ^ 64 - 1) }
         ensures failing { self.new.failing ≡ self.old.failing }
         ensures scripts { self.new.scripts ≡ self.old.scripts }

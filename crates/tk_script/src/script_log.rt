@@ -25,7 +25,7 @@ use std::alloc::{AllocError, Global};
 use std::collections::HashMap;
 use std::marker::Model;
 use tk_edge::{
-    Arming, HostLog, Miss, Order, broken, bytes_of, copy_bytes, first_bytes, passes, push_within,
+    Arming, HostLog, Miss, Order, bytes_of, copy_bytes, first_bytes, passes, push_within,
 };
 use tk_types::{Bytes, List, Text, TryCopy};
 
@@ -101,12 +101,15 @@ impl ScriptLog {
         is_put(&self.files, path)
     }
 
-    /// Whether the wait file of an armed child stands with `.err`.
-    pub(crate) fn has_broken(&self, arming: &Arming) -> Result<bool, AllocError>
-        ensures { IfOk result (λ stands. stands ≡ is_some (script_file self.now.scripts (broken arming.now.wait) self.now.log.told)) }
+    /// Whether the wait file of a child stands with `.err`. It takes no memory.
+    pub(crate) fn has_broken(&self, child: u64) -> bool
+        ensures { (arming : AnArming) → arming_of child self.now.log.told ≡ Some arming
+            → result ≡ is_some (script_file self.now.scripts (broken arming.wait) self.now.log.told) }
     {
-        let path = broken(self.alloc, arming.wait.as_str())?;
-        Ok(self.file(path.as_str()).is_some())
+        match self.log.failed_wait(child) {
+            Some(path) => self.file(path.as_str()).is_some(),
+            None => false,
+        }
     }
 
     /// Whether an armed child may start, by what the host did.

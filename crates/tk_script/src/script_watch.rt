@@ -70,6 +70,8 @@ impl ScriptLog {
         ensures told { IfOk result (λ watch. TellsWatch child self.old.log.told self.new.log.told (Ok watch)) }
         ensures exact { IfOk result (λ watch. Has (arming_of child self.old.log.told)
             (λ arming. watch ≡ waiting_watch self.old.scripts self.old.log.told arming)) }
+        ensures memory { OnErr result (Has (arming_of child self.old.log.told)
+            (λ arming. shown.Waits ≡ waiting_watch self.old.scripts self.old.log.told arming) → ⊥) }
         ensures same { OnErr result (self.new.log.told ≡ self.old.log.told) }
         ensures scripts { self.new.scripts ≡ self.old.scripts }
         ensures killed { self.new.log.killed ≡ self.old.log.killed }
@@ -79,7 +81,7 @@ impl ScriptLog {
         let Some(arming) = self.log().arming(child) else {
             return Err(AllocError);
         };
-        if self.has_broken(arming)? {
+        if self.has_broken(child) {
             self.refuse(child)?;
             return Ok(Watch::Broke { exit: None });
         }
@@ -95,6 +97,7 @@ impl ScriptLog {
         requires { Has (arming_of child self.old.log.told) (λ _. Unit {0}) }
         ensures told { IfOk result (λ watch. TellsWatch child self.old.log.told self.new.log.told (Ok watch)) }
         ensures exact { IfOk result (IsScripted self.old.scripts (flags self.old.log.killed child) child self.old.log.told) }
+        ensures memory { OnErr result (IsScripted self.old.scripts (flags self.old.log.killed child) child self.old.log.told shown.Waits → ⊥) }
         ensures same { OnErr result (self.new.log.told ≡ self.old.log.told) }
         ensures scripts { self.new.scripts ≡ self.old.scripts }
         ensures killed { self.new.log.killed ≡ self.old.log.killed }

@@ -1,9 +1,9 @@
 -- Folders that are apart.
-use Rattle.std.specs.Prelude.{◌≡◌, ◌≢◌, ◌⊎◌, ℕ, List, filter_map}
+use Rattle.std.specs.Prelude.{◌≡◌, ◌≢◌, ◌⊎◌, ℕ, List, filter_map, map}
 use Rattle.std.specs.List.{AllByRecursion}
 use Rattle.tk_types.specs.declared.task.Space.{Space}
 use Rattle.tk_types.specs.declared.task.SpaceSpec.{SpaceSpec}
-use Rattle.tk_space.specs.Space.{below, bound_space}
+use Rattle.tk_space.specs.Space.{below, bound_space, folders_of, space_folder}
 
 -- a name without a slash
 abbrev pub IsName : List ℕ → Type 0
@@ -20,3 +20,7 @@ IsWithin folder path = (path ≡ folder) ⊎ LiesUnder folder path
 -- the bound workspaces are those of the declarations that are bound, in their order
 abbrev pub IsInOrder : List SpaceSpec → List Space → Type 0
 IsInOrder specs bound = filter_map (bound_space bound) specs ≡ bound
+
+-- the folders of the bound workspaces are those of the declarations that are bound
+abbrev pub FoldersFollow : List ℕ → List ℕ → List SpaceSpec → List Space → Type 0
+FoldersFollow root pod specs bound = map (space_folder root pod) bound ≡ folders_of root pod specs bound

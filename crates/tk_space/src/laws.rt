@@ -1,8 +1,8 @@
 //! Laws of the definitions that the contracts cite.
 
-ghost use Rattle.std.specs.Prelude.{◌≡◌, ◌≢◌, ℕ, List, Some, None, codes, map};
-ghost use Rattle.tk_space.specs.Apart.{IsInOrder, IsName, IsWithin, LiesUnder};
-ghost use Rattle.tk_space.specs.Space.{claims_folder, folders_of, space_folder, spaces_folder};
+ghost use Rattle.std.specs.Prelude.{◌≡◌, ◌≢◌, ℕ, List, Some, None, codes};
+ghost use Rattle.tk_space.specs.Apart.{FoldersFollow, IsInOrder, IsName, IsWithin, LiesUnder};
+ghost use Rattle.tk_space.specs.Space.{claims_folder, space_folder, spaces_folder};
 
 use tk_types::{Space, SpaceSpec};
 
@@ -26,5 +26,5 @@ pub fn own_folders_are_apart()
 /// Where the bound workspaces stand in the order of the declarations, their folders are those of the declared
 /// workspaces that are bound.
 pub fn folders_follow_declarations()
-    ensures { (root pod : List ℕ) (specs : List SpaceSpec) (bound : List Space) → IsInOrder specs bound → map (space_folder root pod) bound ≡ folders_of root pod specs bound }
+    ensures { (root pod : List ℕ) (specs : List SpaceSpec) (bound : List Space) → IsInOrder specs bound → FoldersFollow root pod specs bound }
 {}
