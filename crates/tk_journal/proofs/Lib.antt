@@ -33,3 +33,4 @@ pub mod Making
 pub mod Positions
 pub mod PlainNames
 pub mod Folders
+pub mod Made

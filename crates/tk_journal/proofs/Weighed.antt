@@ -185,7 +185,7 @@ module _ (older : List Entry) (e : Entry) (legal : IsLegal (e ∷ older)) where
       task_run_slot_now task_run_name task_run there slot (attempt_slot task_run_name task_run.spec.retries place slot (omega (arith, tr.few)) of_attempt)
 
   -- a child is made, since its run has it, with a body and a task
-  child_there : (name run : List ℕ) (task index : ℕ) (mark : Bool) → Has (run_of (past e.fronts.runs older) run) (MakeTaskRunRow seen name task index mark) → IsThere (child_made name run task index mark (run_of older run))
+  pub child_there : (name run : List ℕ) (task index : ℕ) (mark : Bool) → Has (run_of (past e.fronts.runs older) run) (MakeTaskRunRow seen name task index mark) → IsThere (child_made name run task index mark (run_of older run))
   child_there name run task index mark row =
       let part = part_of row.it.scheduled task index row.has.child.0 row.has.child.1 in
       let later = (grows_past e.fronts.runs older legal.0).runs run row.it row.is in

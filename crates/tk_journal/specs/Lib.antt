@@ -20,3 +20,5 @@ pub mod TaskRunRows
 pub mod Weight
 pub mod Journal
 pub mod Folders
+pub mod Made
+pub mod Fronts

@@ -2,6 +2,7 @@
 
 ghost use Rattle.tk_journal.specs.Folders.{FoldersApart};
 ghost use Rattle.tk_journal.specs.Laws.{EndedStays, RunsGrow, LabelsStay, Lasts, LegalIsRight};
+ghost use Rattle.tk_journal.specs.Made.{EntriesWrite};
 ghost use Rattle.tk_journal.specs.Progress.{NeverStuck};
 ghost use Rattle.tk_journal.specs.Weight.{WithinWeight};
 
@@ -23,6 +24,11 @@ pub fn label_stays()
 /// The facts by which the induction over a history goes.
 pub fn lasting()
     ensures { Lasts }
+{}
+
+/// An entry makes its object where that isn't there yet, and only changes it where it is.
+pub fn entries_write()
+    ensures { EntriesWrite }
 {}
 
 /// Each legal history is right at each of its positions.
