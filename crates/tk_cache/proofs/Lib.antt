@@ -1,0 +1,10 @@
+pub mod Children
+pub mod Counts
+pub mod Held
+pub mod Named
+pub mod Nexts
+pub mod Passing
+pub mod Positions
+pub mod Reading
+pub mod Showing
+pub mod Steps

@@ -1,0 +1,15 @@
+use Rattle.std.proofs.Common.{sym, subst}
+use Rattle.tk_cache.specs.Fronts.{Shows}
+use Rattle.tk_cache.specs.Views.{Kept, seen, kept_of}
+use Rattle.tk_cache.proofs.Showing.{shown_runs, with_runs}
+use Rattle.tk_cache.proofs.cache.Cache.advance_runs.Goals as goal
+
+pub advance_runs-requires-clause-shows : goal.advance_runs-requires-clause-shows
+advance_runs-requires-clause-shows c =
+    let shows : Shows (seen (kept_of c.self.inside.fronts c.self.inside.runs c.self.inside.beside c.self.inside.task_runs c.self.inside.pods)) c.args.journal.now.history = subst (λ (k : Kept). Shows (seen k) c.args.journal.now.history) (sym c.self.view_is) c.requires.shows in
+    shown_runs c.self.inside.fronts c.self.inside.runs c.self.inside.beside c.self.inside.task_runs c.self.inside.pods c.args.journal.now.history shows
+
+pub returns-clause-shows : goal.returns-clause-shows
+returns-clause-shows c =
+    let shows : Shows (seen (kept_of c.self.inside.fronts c.self.inside.runs c.self.inside.beside c.self.inside.task_runs c.self.inside.pods)) c.args.journal.now.history = subst (λ (k : Kept). Shows (seen k) c.args.journal.now.history) (sym c.self.view_is) c.requires.shows in
+    with_runs c.self.inside.fronts c.self.inside.runs c.self.inside.beside c.self.inside.task_runs c.self.inside.pods c.args.journal.now.history shows c.args.to c.advance_runs.new.runs c.requires.within c.in_ok-advance_runs.ensures

@@ -1,0 +1,2 @@
+pub mod GracefulStop
+pub mod Tried
