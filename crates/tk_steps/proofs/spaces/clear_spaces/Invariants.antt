@@ -1,0 +1,12 @@
+use Rattle.std.proofs.Common.{◌≡◌}
+use Rattle.tk_steps.specs.Moves.{Moves, count_actions}
+use Rattle.tk_steps.proofs.spaces.clear_spaces.Given as goal
+
+abbrev pub invariant-loop-place : goal.invariant-loop-place
+invariant-loop-place g l = record {
+  moves : Moves l.root l.pod l.pod (g.H.Host.told l.initial.host) (g.H.Host.told l.host);
+  quiet : count_actions (g.H.Host.told l.host) ≡ count_actions (g.H.Host.told l.initial.host);
+  killed : g.H.Host.killed l.host ≡ g.H.Host.killed l.initial.host;
+  watches : g.H.Host.watches l.host ≡ g.H.Host.watches l.initial.host;
+  count : g.H.Host.faults l.host ≡ g.H.Host.faults l.initial.host;
+}

@@ -1,0 +1,8 @@
+pub mod Held
+pub mod Kills
+pub mod May
+pub mod Moves
+pub mod Paths
+pub mod Ready
+pub mod Scripts
+pub mod Watched

@@ -1,0 +1,19 @@
+//! What a kubelet does on its host for one pod. Its folder is made anew, with the folders of its workspaces, its start file
+//! and its scripts; its steps are armed, each once, and watched, and what runs of them is killed. Each call says what it
+//! may add to the host's history, event by event (`specs/May.antt`), and that what is held of the pod is still what the
+//! host tells (`specs/Held.antt`). A call on the host that fails is kept with the pod.
+#![tactic(auto)]
+
+mod arming;
+mod files;
+mod held;
+mod killing;
+mod paths;
+mod scripts;
+mod spaces;
+mod watching;
+
+pub use arming::arm;
+pub use held::{HeldPod, HeldStep};
+pub use killing::kill;
+pub use watching::watch;
