@@ -27,8 +27,8 @@ pub struct Armed {
 }
 
 /// One turn of an entrypoint. It looks for its wait file with `.err` and then for the wait file, and starts its order
-/// behind the latter; once started, it polls its child, and posts how that ended. The turns that wait take memory for
-/// their paths only the first time.
+/// behind the latter; once started, it polls its child, and posts how that ended. A turn that only waits takes no memory
+/// but what the host takes.
 #[tactic(auto, using(crate::proofs::Turns::may_same))]
 pub fn armed_turn<H: Host>(alloc: Global, host: &mut H, armed: &mut Armed) -> Result<Watch, Miss>
     ensures turn { TurnGives armed.old armed.new (H.told host.old) (H.told host.new) (H.files host.old) result }
@@ -56,7 +56,7 @@ fn first_turn<H: Host>(alloc: Global, host: &mut H, armed: &mut Armed) -> Result
     ensures watches { H.watches host.new ≡ H.watches host.old }
     ensures count { Counts (H.faults host.old) (H.faults host.new) result }
 {
-    if armed.wait.look_failed(alloc, host)? {
+    if armed.wait.look_failed(host)? {
         put_post(alloc, host, armed, false)?;
         armed.last = Some(Watch::Broke { exit: None });
         return Ok(Watch::Broke { exit: None });

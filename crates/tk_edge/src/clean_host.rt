@@ -124,33 +124,25 @@ fn file_in<'a>(events: &'a [Event], path: &str) -> Option<&'a [u8]>
     found
 }
 
-/// Whether the path was put once this event came, too.
-fn put_after(event: &Event, path: &str, found: bool) -> bool
-    ensures { Follows (was_put path.now) event.now found result }
-{
-    match event {
-        Event::Put {
-            path: other,
-            answered: true,
-            ..
-        } => path == other.as_str() || found,
-        Event::Cleared {
-            folder,
-            answered: true,
-        } => !is_below(folder, path) && found,
-        _ => found,
-    }
-}
-
-/// Whether the path was put.
+/// Whether the path was put. The newest events are asked first.
 pub(crate) fn put_in(events: &[Event], path: &str) -> bool
     ensures { was_put path.now (reverse events.now) ≡ result }
 {
-    let mut found = false;
-    for event in events {
-        found = put_after(event, path, found);
+    for place in (0..events.len()).rev() {
+        match &events[place] {
+            Event::Put {
+                path: other,
+                answered: true,
+                ..
+            } if path == other.as_str() => return true,
+            Event::Cleared {
+                folder,
+                answered: true,
+            } if is_below(folder, path) => return false,
+            _ => {}
+        }
     }
-    found
+    false
 }
 
 /// What the child was armed with once this event came, too.

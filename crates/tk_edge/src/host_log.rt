@@ -343,10 +343,11 @@ impl HostLog {
         }
     }
 
+    // The newest are asked first, since the steps of a pod are armed one behind the other.
     fn some_passed(&self, pod: &Text, path: &Text) -> bool
         ensures { IsTrue result → HasPassed pod.now path.now self.now.told }
     {
-        for child in 0..self.count() {
+        for child in (0..self.count()).rev() {
             if self.entry_passed(child, pod, path) {
                 return true;
             }
@@ -361,11 +362,18 @@ impl HostLog {
     }
 
     /// Whether the wait file of an armed child stands, by what the host did: it was put, or it's the post file of an
-    /// entry of the same pod that passed.
+    /// entry of the same pod that passed. What a pod's first step waits for was put shortly before it was armed, what
+    /// any other waits for is the post file of one that was armed shortly before.
     pub fn may_start(&self, arming: &Arming) -> bool
         ensures { IsTrue result → MayStart arming.now self.now.told }
     {
-        self.some_passed(&arming.order.pod, &arming.wait) || self.was_put(arming.wait.as_str())
+        let order = &arming.order;
+        let wait = &arming.wait;
+        if order.step == 0 {
+            self.was_put(wait.as_str()) || self.some_passed(&order.pod, wait)
+        } else {
+            self.some_passed(&order.pod, wait) || self.was_put(wait.as_str())
+        }
     }
 }
 

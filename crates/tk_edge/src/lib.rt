@@ -28,15 +28,11 @@ mod memory;
 mod miss;
 mod order;
 mod real_host;
-#[cfg(test)]
-mod real_host_tests;
 mod script;
 mod sink;
 mod source;
 mod stream;
 mod system;
-#[cfg(test)]
-mod tests;
 mod texts;
 mod wait_file;
 

@@ -99,20 +99,19 @@ impl<'a, R: Processes> RealHost<'a, R> {
     }
 }
 
-#[cfg(test)]
-impl<'a, R: Processes> RealHost<'a, R> {
+impl<'a, R: Processes + Files> RealHost<'a, R> {
     ghost use Rattle.std.specs.Prelude.{IsTrue};
 
-    /// Whether the child is armed.
-    pub(crate) fn is_armed(&self, child: u64) -> bool
-        ensures { IsTrue result → Has (arming_of child self.now.log.told) (λ _. Unit {0}) }
+    /// Whether the child is armed. It takes no memory.
+    pub fn is_armed(&self, child: u64) -> bool
+        ensures { IsTrue result → Has (arming_of child (⟦<RealHost<'a, R> as Host>⟧.told self.now)) (λ _. Unit {0}) }
     {
         self.log.arming(child).is_some()
     }
 
-    /// How many calls failed.
-    pub(crate) fn faults(&self) -> u64
-        ensures { result ≡ self.now.faults }
+    /// How many calls failed; at 2^64 - 1 it stands still. It takes no memory.
+    pub fn faults(&self) -> u64
+        ensures { result ≡ ⟦<RealHost<'a, R> as Host>⟧.faults self.now }
     {
         self.faults
     }

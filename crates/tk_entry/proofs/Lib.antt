@@ -1,2 +1,1 @@
-pub mod StaysArmed
 pub mod Unchanged

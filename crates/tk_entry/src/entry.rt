@@ -44,13 +44,13 @@ impl Model for EntryPoint {
 impl EntryPoint {
     /// The entrypoint that starts this order once the file `wait` stands, and leaves the file `post` behind it, each a
     /// whole path. With `keep_going` each exit passes. It takes no memory.
-    pub fn new(order: Order, wait: Text, post: Text, keep_going: bool) -> EntryPoint
+    pub fn new(order: Order, wait: WaitFile, post: Text, keep_going: bool) -> EntryPoint
         ensures { result ≡ first_entry order wait post keep_going }
     {
         EntryPoint {
             armed: Armed {
                 order,
-                wait: WaitFile::new(wait),
+                wait,
                 post,
                 keep_going,
                 note: None,
@@ -73,7 +73,8 @@ impl EntryPoint {
     /// One turn: before its order was started, it looks for its wait file with `.err` and then for the wait file, and
     /// starts the order behind the latter; then it polls its child, and leaves its post file once that ended. HostFault
     /// comes where a call on the host failed in this turn, which its count of faults tells; then, and in each later
-    /// turn, nothing is started. The only error is want of memory, behind which no order was started either.
+    /// turn, nothing is started. The only error is want of memory, behind which no order was started either; a turn that
+    /// answers Waits takes no memory but what the host takes.
     #[tactic(auto, using(crate::proofs::Unchanged::may_same))]
     pub fn turn<H: Host>(&mut self, alloc: Global, host: &mut H) -> Result<Turn, AllocError>
         ensures turn { IfOk result (EntryAnswers self.old self.new (seen_of (H.told host.old) (H.told host.new) (H.faults host.old) (H.faults host.new)) (H.files host.old)) }

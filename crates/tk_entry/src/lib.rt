@@ -4,9 +4,5 @@
 #![tactic(auto)]
 
 mod entry;
-#[cfg(test)]
-mod host_tests;
-#[cfg(test)]
-mod tests;
 
 pub use entry::{EntryPoint, Turn};

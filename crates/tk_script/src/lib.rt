@@ -4,13 +4,9 @@
 //! longer as its history grows.
 #![tactic(auto)]
 
-#[cfg(test)]
-mod entry_tests;
 mod file_table;
 mod pod_script;
 mod script_host;
-#[cfg(test)]
-mod script_host_tests;
 mod script_log;
 mod script_table;
 mod script_watch;

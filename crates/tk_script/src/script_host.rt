@@ -69,18 +69,17 @@ impl ScriptHost {
     }
 }
 
-#[cfg(test)]
 impl ScriptHost {
-    /// Whether the child is armed.
-    pub(crate) fn is_armed(&self, child: u64) -> bool
-        ensures { IsTrue result → Has (arming_of child self.now.log.told) (λ _. Unit {0}) }
+    /// Whether the child is armed. It takes no memory.
+    pub fn is_armed(&self, child: u64) -> bool
+        ensures { IsTrue result → Has (arming_of child (⟦<ScriptHost as Host>⟧.told self.now)) (λ _. Unit {0}) }
     {
         self.played.log().arming(child).is_some()
     }
 
-    /// How many calls failed.
-    pub(crate) fn faults(&self) -> u64
-        ensures { result ≡ self.now.faults }
+    /// How many calls failed; at 2^64 - 1 it stands still. It takes no memory.
+    pub fn faults(&self) -> u64
+        ensures { result ≡ ⟦<ScriptHost as Host>⟧.faults self.now }
     {
         self.failures.faults
     }

@@ -1,9 +1,9 @@
 //! Entrypoints turn by turn, over a host in memory.
 
-use crate::{EntryPoint, Turn};
 use std::alloc::{AllocError, Global};
 use std::test::Fail;
-use tk_edge::{CleanHost, Host, Order};
+use tk_edge::{CleanHost, Host, Order, WaitFile};
+use tk_entry::{EntryPoint, Turn};
 use tk_types::{Bytes, List, Text};
 
 /// The entrypoint of step 2 of three, which notes its exit.
@@ -17,7 +17,7 @@ fn last_step(alloc: Global, keep_going: bool) -> Result<EntryPoint, AllocError> 
         env: List::new(alloc),
         dir: Text::from_str(alloc, "/work/r-a-pod-1")?,
     };
-    let wait = Text::from_str(alloc, "/work/r-a-pod-1/run/1/out")?;
+    let wait = WaitFile::new(alloc, Text::from_str(alloc, "/work/r-a-pod-1/run/1/out")?)?;
     let post = Text::from_str(alloc, "/work/r-a-pod-1/run/2/out")?;
     let mut entry = EntryPoint::new(order, wait, post, keep_going);
     entry.note_exit(Text::from_str(alloc, "/work/exit")?);

@@ -1,10 +1,10 @@
 //! The real host over folders below the machine's temporary one, and with programs of the machine.
 
-use crate::{Host, Miss, Order, Poll, RealHost, Watch};
 use std::alloc::{AllocError, Global};
 use std::test::Fail;
 use std::time::Duration;
 use std::{env, fs, process, thread};
+use tk_edge::{Host, Miss, Order, Poll, RealHost, Watch};
 use tk_types::{List, Pair, Text};
 
 /// How often a child is asked whether it ended, and how many milliseconds lie between.

@@ -1,11 +1,11 @@
 //! Each form and each adapter once, with ample memory.
 
-use crate::{
+use std::alloc::{AllocError, Global};
+use std::test::Fail;
+use tk_edge::{
     CleanSink, CleanSource, Clock, Failed, Fresh, Gate, GateTurn, ListGate, ManualClock, MemSink,
     MemSource, Miss, ReadSource, Sink, Source, SystemClock, WriteSink,
 };
-use std::alloc::{AllocError, Global};
-use std::test::Fail;
 use tk_types::{Bytes, Kind, List};
 
 fn bytes(alloc: Global, text: &str) -> Result<Bytes, AllocError> {

@@ -1,9 +1,9 @@
 //! A host that plays scripts, with ample memory.
 
-use crate::{PodScript, ScriptHost};
 use std::alloc::{AllocError, Global};
 use std::test::Fail;
 use tk_edge::{Failed, Host, Miss, Order, Poll, Watch};
+use tk_script::{PodScript, ScriptHost};
 use tk_types::{List, Pair, Text};
 
 fn order_of(alloc: Global, pod: &str, step: u32) -> Result<Order, AllocError> {

@@ -1,6 +1,6 @@
 //! A host in memory and entrypoints over it, with ample memory.
 ghost use Rattle.std.specs.Prelude.{ℕ, IfOk};
-ghost use Rattle.tk_entry.specs.Armed.{IsArmed};
+ghost use Rattle.tk_host_tests.specs.Armed.{IsArmed};
 
 use std::alloc::{AllocError, Global};
 use std::test::Fail;
@@ -110,7 +110,7 @@ fn each_call_of_a_host_answers(rt: HostRuntime) -> Result<(), Fail> {
 fn turns(alloc: Global, host: &mut CleanHost, note: Option<Text>) -> Result<[Watch; 3], Miss> {
     let mut armed = Armed {
         order: order(alloc, 0)?,
-        wait: WaitFile::new(Text::from_str(alloc, "/run/start")?),
+        wait: WaitFile::new(alloc, Text::from_str(alloc, "/run/start")?)?,
         post: Text::from_str(alloc, "/run/0")?,
         keep_going: false,
         note,

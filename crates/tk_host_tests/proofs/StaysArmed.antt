@@ -10,7 +10,7 @@ use Rattle.tk_edge.specs.declared.order.Watch.{Watch}
 use Rattle.tk_edge.specs.declared.order.Watch.TheVariants as watches
 use Rattle.tk_edge.specs.Calls.{TellsArmedTurn, TellsExit, TellsLaunch, TellsWatch}
 use Rattle.tk_edge.specs.History.{arming_of}
-use Rattle.tk_entry.specs.Armed.{IsArmed}
+use Rattle.tk_host_tests.specs.Armed.{IsArmed}
 
 stays : (child : ℕ) (e : Event) (h : List Event) → IsArmed child h → IsArmed child (e ∷ h)
 stays child (events.Armed other arming) h armed = elim (cases_Bool (nat_eq child other)) [

@@ -1,10 +1,10 @@
 //! Entrypoints over a host that fails, with ample memory.
 
-use crate::ScriptHost;
 use std::alloc::{AllocError, Global};
 use std::test::Fail;
-use tk_edge::{Host, Order};
+use tk_edge::{Host, Order, WaitFile};
 use tk_entry::{EntryPoint, Turn};
+use tk_script::ScriptHost;
 use tk_types::{List, Text};
 
 fn order(alloc: Global) -> Result<Order, AllocError> {
@@ -29,7 +29,7 @@ fn host_of(alloc: Global, failing: u64) -> Result<ScriptHost, AllocError> {
 }
 
 fn entry_of(alloc: Global) -> Result<EntryPoint, AllocError> {
-    let wait = Text::from_str(alloc, "/work/p/run/start")?;
+    let wait = WaitFile::new(alloc, Text::from_str(alloc, "/work/p/run/start")?)?;
     let post = Text::from_str(alloc, "/work/p/run/0/out")?;
     Ok(EntryPoint::new(order(alloc)?, wait, post, false))
 }
