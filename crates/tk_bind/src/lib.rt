@@ -23,11 +23,7 @@ mod scope_names;
 mod selector;
 mod status;
 mod substitution;
-#[cfg(test)]
-mod substitution_tests;
 mod target;
-#[cfg(test)]
-mod tests;
 
 pub use bind::{Sources, bind_params, bound_param, first_value};
 pub use check::check_text;

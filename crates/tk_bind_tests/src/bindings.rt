@@ -1,8 +1,8 @@
 //! Bindings and checks, a row for each kind of answer. More rows are computed in the examples of the proofs.
 
-use crate::{BindError, CheckError, Scope, ScopeNames, bind_params, check_text};
 use std::alloc::{AllocError, Global};
 use std::test::Fail;
+use tk_bind::{BindError, CheckError, Scope, ScopeNames, bind_params, check_text};
 use tk_types::{List, Param, ParamSpec, ParamType, Text, Value};
 
 /// A wanted `x`.

@@ -5,13 +5,12 @@ ghost use Rattle.std.specs.Prelude.{◌≡◌, [], ◌∷◌, All, IfOk};
 ghost use Rattle.tk_types.specs.Value.{value_texts};
 ghost use Rattle.tk_bind.specs.Readings.{ReadsMatrix, ReadsParams, ReadsStep};
 
-use crate::lookup::index_of;
-use crate::{
-    Env, Given, Lookup, SubstituteError, fits, matrix_in, substitute, substitute_list,
-    substitute_value,
-};
 use std::alloc::{AllocError, Global};
 use std::test::Fail;
+use tk_bind::{
+    Env, Given, Lookup, SubstituteError, fits, index_of, matrix_in, substitute, substitute_list,
+    substitute_value,
+};
 use tk_types::{
     List, Matrix, Pair, Param, ParamSpec, ParamType, Step, TaskBody, TaskSpec, Text, Value,
 };
