@@ -1,7 +1,9 @@
 ghost use Rattle.std.specs.Prelude.{◌≡◌, IfOk};
+ghost use Rattle.tk_verdict.specs.Available.{available_results as results_available};
 ghost use Rattle.tk_verdict.specs.Condition.{condition_of, results_of};
 ghost use Rattle.tk_verdict.specs.Labels.{labels_of, ready_bindings};
 ghost use Rattle.tk_verdict.specs.WellFormed.{IsWellFormed};
+ghost use Rattle.tk_verdict.specs.Words.{status_words as words_of_status};
 
 use crate::available::available_results;
 use crate::bindings::ready_bindings;
@@ -10,11 +12,12 @@ use crate::emit::results_with;
 use crate::finished::condition_with;
 use crate::groups::Groups;
 use crate::labels::labels;
+use crate::status::status_words;
 use std::alloc::{AllocError, Global};
 use std::marker::Model;
 use tk_bind::Given;
 use tk_graph::Ranks;
-use tk_types::{Binding, Condition, Facts, List, Param, Verdict};
+use tk_types::{Binding, Condition, Facts, List, Pair, Param, Verdict};
 
 /// The decision of a run: what all its answers stand on is made once. A contract sees the facts of the run.
 #[derive(Drop)]
@@ -89,6 +92,21 @@ impl<'f> Decision<'f> {
             labels,
             task,
         )
+    }
+
+    /// The results that the run's children gave, as its texts see them. It takes no memory.
+    pub fn given(&self) -> &[Given]
+        ensures { result.now ≡ results_available self.now }
+    {
+        self.results.as_slice()
+    }
+
+    /// The status variables that the texts of `finally` see beside a task's own words, with these labels of `tasks`
+    /// (Tekton, Pipelines, Using execution status of `PipelineTask`). The only error is want of memory.
+    pub fn status_words(&self, alloc: Global, labels: &[Verdict]) -> Result<List<Pair>, AllocError>
+        ensures { IfOk result (λ words. words ≡ words_of_status self.now labels.now) }
+    {
+        status_words(alloc, self.facts, &self.groups, labels)
     }
 
     /// The condition of the run by its labels, None exactly where the run can start and some task is neither Ran nor
