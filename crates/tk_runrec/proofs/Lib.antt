@@ -1,0 +1,14 @@
+pub mod Bare
+pub mod Growing
+pub mod Meaning
+pub mod Labelled
+pub mod Listed
+pub mod Unmarked
+pub mod Unlabelled
+pub mod Table
+pub mod Places
+pub mod Justified
+pub mod Fit
+pub mod Earliest
+pub mod Chosen
+pub mod Shown

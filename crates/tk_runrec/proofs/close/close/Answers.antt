@@ -1,0 +1,14 @@
+use Rattle.std.proofs.Common.{List, length, ap, arith}
+use Rattle.tk_types.specs.declared.run.Facts.{Facts}
+use Rattle.tk_types.specs.declared.verdict.Verdict.{Verdict}
+use Rattle.tk_journal.specs.Effects.{task_count}
+use Rattle.tk_verdict.proofs.Lines.{labels_length}
+use Rattle.tk_runrec.proofs.close.close.Goals as goal
+
+pub closing-requires-clause-few : goal.closing-requires-clause-few
+closing-requires-clause-few c =
+    let long = labels_length c.args.decision.now in
+    let same = ap (λ (labels : List Verdict). length labels) c.requires.labels in
+    let spec = ap (λ (facts : Facts). task_count facts.spec) c.requires.facts in
+    let few = c.requires.fit.few_tasks in
+    omega (arith, long, same, spec, few)

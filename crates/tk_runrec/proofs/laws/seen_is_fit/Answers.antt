@@ -1,0 +1,5 @@
+use Rattle.tk_runrec.proofs.Fit.{fit_at}
+use Rattle.tk_runrec.proofs.laws.seen_is_fit.Goals as goal
+
+pub returns : goal.returns
+returns c = λ history legal fronts. fit_at fronts history legal

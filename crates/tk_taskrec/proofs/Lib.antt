@@ -1,0 +1,9 @@
+pub mod Chosen
+pub mod Fit
+pub mod Gathered
+pub mod Justified
+pub mod Places
+pub mod Plans
+pub mod Readings
+pub mod Scripts
+pub mod Turns
