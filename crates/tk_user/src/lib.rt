@@ -1,0 +1,10 @@
+//! What a user asks of a run while it goes on: that it start, stop or be cancelled. An ask is written at the journal's end,
+//! or refused, for the first of three causes that holds there.
+#![tactic(auto)]
+
+mod answer;
+mod asking;
+mod refusal;
+
+pub use answer::AskAnswer;
+pub use asking::ask;
