@@ -1,2 +1,3 @@
 pub mod GracefulStop
 pub mod Tried
+pub mod TwoSteps

@@ -1,11 +1,15 @@
 //! Worked histories: whole journals from admission to the end, written out, legal and so right at each position; and
-//! tests of the store and of caches over them.
+//! tests of the journal, the store, caches and the steps of a pod.
 #![tactic(auto)]
 
 #[cfg(test)]
 mod cache_tests;
 #[cfg(test)]
 mod entries;
+#[cfg(test)]
+mod journal_tests;
+#[cfg(test)]
+mod pod_tests;
 #[cfg(test)]
 mod store_tests;
 

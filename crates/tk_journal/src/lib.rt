@@ -15,8 +15,6 @@ mod objects;
 mod pod_effects;
 mod run_effects;
 mod task_run_effects;
-#[cfg(test)]
-mod tests;
 mod written;
 
 pub use act::{Act, Admission, Closing, Skip};

@@ -1,11 +1,11 @@
 //! Journals by calls, and what their objects are.
 
-use crate::{
+use std::alloc::{AllocError, Global};
+use std::test::Fail;
+use tk_journal::{
     Act, Actor, Admission, Closing, Ending, Entry, Fronts, Journal, Object, Plan, PodState,
     RunState, TaskRunState,
 };
-use std::alloc::{AllocError, Global};
-use std::test::Fail;
 use tk_types::{
     Asked, Binding, Condition, Kind, List, Outcome, PipelineTask, RunSpec, Start, Step, Stop,
     TaskBody, TaskRunSpec, TaskSource, TaskSpec, Text,
