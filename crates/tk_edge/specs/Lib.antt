@@ -10,6 +10,7 @@ pub mod Laws
 pub mod Manual
 pub mod Markers
 pub mod Memory
+pub mod Plays
 pub mod Readings
 pub mod Scripted
 pub mod Streams

@@ -5,6 +5,7 @@ ghost use Rattle.tk_edge.specs.declared.miss.Miss.TheVariants.{Memory};
 ghost use Rattle.tk_edge.specs.declared.event.Event.TheVariants.{Exited};
 ghost use Rattle.tk_edge.specs.Calls.{TellsExit, TellsWatch, arming_with};
 ghost use Rattle.tk_edge.specs.HostLog.{counts, flags};
+ghost use Rattle.tk_edge.specs.Plays.{IsPlayed};
 ghost use Rattle.tk_edge.specs.declared.order.Watch.TheVariants as shown;
 ghost use Rattle.tk_pod.specs.Exits.{passes as has_passed};
 ghost use Rattle.tk_edge.specs.Files.{is_under, MayChange};
@@ -338,6 +339,8 @@ impl Host for CleanHost {
 
     ghost files = { λ host. Some (files_of host.log.told) };
 
+    ghost plays = { λ host. None };
+
     ghost faults = { λ host. 0 };
 
     fn clear(&mut self, folder: &str) -> Result<(), Miss> {
@@ -403,10 +406,13 @@ impl Host for CleanHost {
             (⟦<CleanHost as Host>⟧.told self.old) (⟦<CleanHost as Host>⟧.files self.old)) }
         ensures ready { OnlyWaits child (⟦<CleanHost as Host>⟧.told self.old) (⟦<CleanHost as Host>⟧.files self.old) → result ≡ Ok shown.Waits }
         ensures ends { IfOk result (λ watch. is_some (order_of child (⟦<CleanHost as Host>⟧.told self.old)) ≡ true → HasEnded watch) }
+        ensures played { IfOk result (IsPlayed (⟦<CleanHost as Host>⟧.plays self.old) (⟦<CleanHost as Host>⟧.killed self.old child)
+            child (⟦<CleanHost as Host>⟧.told self.old)) }
         ensures others { MayChange (IsFileOf child (⟦<CleanHost as Host>⟧.told self.old))
             (⟦<CleanHost as Host>⟧.files self.old) (⟦<CleanHost as Host>⟧.files self.new) }
         ensures killed { ⟦<CleanHost as Host>⟧.killed self.new ≡ ⟦<CleanHost as Host>⟧.killed self.old }
         ensures watches { CountsWatch child (⟦<CleanHost as Host>⟧.watches self.old) (⟦<CleanHost as Host>⟧.watches self.new) result }
+        ensures plays { ⟦<CleanHost as Host>⟧.plays self.new ≡ ⟦<CleanHost as Host>⟧.plays self.old }
         ensures count { Counts (⟦<CleanHost as Host>⟧.faults self.old) (⟦<CleanHost as Host>⟧.faults self.new) result }
     {
         let watch = self.watch_once(child)?;

@@ -464,6 +464,8 @@ impl<'a, R: Processes + Files> Host for RealHost<'a, R> {
 
     ghost files = { λ host. None };
 
+    ghost plays = { λ host. None };
+
     ghost faults = { λ host. host.faults };
 
     fn clear(&mut self, folder: &str) -> Result<(), Miss> {

@@ -27,8 +27,6 @@ mod number;
 mod object;
 mod reader;
 mod table;
-#[cfg(test)]
-mod tests;
 mod text;
 
 pub use list::{Each, SomeOf, elements_of};

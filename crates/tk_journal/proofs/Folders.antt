@@ -166,7 +166,7 @@ task_kept_root moment (acts.OpenAttempt name) t = refl
 task_kept_root moment (acts.Close name closing) t = closed_root closing t
 task_kept_root moment act t = refl
 
-task_run_root : (root : List ℕ) (history : List Entry) → HaveRoot root history → (name : List ℕ) (t : TaskRunState) → task_run_of history name ≡ Some t → t.root ≡ root
+pub task_run_root : (root : List ℕ) (history : List Entry) → HaveRoot root history → (name : List ℕ) (t : TaskRunState) → task_run_of history name ≡ Some t → t.root ≡ root
 task_run_root root [] have name t is = cc
 task_run_root root (e ∷ older) have name t is =
     state_cases (writes kinds.TaskRuns name) (λ (before : List Entry) d was. task_run_written (run_of before) d was) (λ (o : Option TaskRunState). (x : TaskRunState) → o ≡ Some x → x.root ≡ root) e older
@@ -177,7 +177,7 @@ task_run_root root (e ∷ older) have name t is =
     written (Some before) own x out =
         ap (λ (y : TaskRunState). y.root) (sym (same_Some (task_run_after e.moment e.act before) x out)) ∙ (task_kept_root e.moment e.act before ∙ own before refl)
 
-have_past : (root : List ℕ) (n : ℕ) (history : List Entry) → HaveRoot root history → HaveRoot root (past n history)
+pub have_past : (root : List ℕ) (n : ℕ) (history : List Entry) → HaveRoot root history → HaveRoot root (past n history)
 have_past root n [] have = have
 have_past root n (e ∷ older) have = elim (cases_Bool (nat_le (suc (length older)) n)) [
   | inl hit ↦ rw hit have

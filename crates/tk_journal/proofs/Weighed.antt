@@ -31,7 +31,7 @@ use Rattle.tk_verdict.specs.Facts.{level_of}
 use Rattle.tk_journal.specs.Right.{Lasting, LastingTaskRun, facts_at, EndedAttempt}
 use Rattle.tk_journal.specs.Legal.{IsLegal, IsStep, IsWritable, IsCurrent, Fits}
 use Rattle.tk_journal.specs.Weight.{weight}
-use Rattle.tk_journal.proofs.LeastWeight.{retries_at, least_weight}
+use Rattle.tk_journal.proofs.LeastWeight.{retries_at, least, least_weight}
 use Rattle.tk_journal.proofs.Possible.{count_has, map_has, within_possible}
 use Rattle.std.specs.List.{range_with_len}
 use Rattle.tk_journal.specs.Grows.{Grows}
@@ -383,8 +383,11 @@ slots_of (e ∷ older) legal =
       allowed = All-cons (IsAllowed (e ∷ older)) one.slot rest.slots one.allowed (All-weaker (IsAllowed older) (IsAllowed (e ∷ older)) (λ s allowed. allowed_stays e older s allowed) rest.slots rest.allowed);
     }
 
-pub within_weight : (history : List Entry) → IsLegal history → length history ≤ weight history
-within_weight history legal =
+pub within_least : (history : List Entry) → IsLegal history → length history ≤ least history
+within_least history legal =
     let all = slots_of history legal in
     let few = fewer all.slots (all_slots history) all.differ (λ s has. All-contains (IsAllowed history) all.slots s all.allowed has) in
-    omega (arith, few, all.count, length_slots history, least_weight history legal)
+    omega (arith, few, all.count, length_slots history)
+
+pub within_weight : (history : List Entry) → IsLegal history → length history ≤ weight history
+within_weight history legal = omega (arith, within_least history legal, least_weight history legal)

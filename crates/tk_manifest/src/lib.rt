@@ -17,8 +17,6 @@ mod parameter;
 mod pipeline;
 mod run;
 mod task;
-#[cfg(test)]
-mod tests;
 mod with_document;
 mod workspace;
 

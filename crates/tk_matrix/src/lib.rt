@@ -9,8 +9,6 @@ pub mod laws;
 mod listing;
 mod product;
 mod size;
-#[cfg(test)]
-mod tests;
 
 pub use listing::{all, combination};
 pub use size::{MAX_COMBINATIONS, TooLarge, count};

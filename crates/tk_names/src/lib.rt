@@ -14,6 +14,3 @@ pub use rules::{
     is_dns_label, is_env_name, is_name_prefix, is_object_name, is_object_param_name, is_param_name,
     is_pipeline_result_name, is_sub_path, is_task_result_name,
 };
-
-#[cfg(test)]
-mod tests;

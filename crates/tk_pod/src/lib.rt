@@ -3,8 +3,6 @@
 //! passes with exit 0, or with any where it continues on error. Nothing here takes memory.
 #![tactic(auto)]
 
-#[cfg(test)]
-mod tests;
 mod walk;
 
 pub use walk::{PodWalk, Walked};

@@ -10,8 +10,6 @@ pub mod laws;
 mod read;
 mod refusal;
 mod strings;
-#[cfg(test)]
-mod tests;
 mod text;
 mod written;
 

@@ -21,8 +21,6 @@ mod event;
 mod events;
 mod outcomes;
 mod scenario;
-#[cfg(test)]
-mod tests;
 mod words;
 
 pub use actors::Counts;

@@ -14,7 +14,7 @@ use Rattle.tk_edge.specs.Files.{is_under}
 use Rattle.tk_script.specs.FileTable.{bytes_at, put_at}
 use Rattle.tk_edge.specs.History.{HasPassed, IsNew, arming_of, exit_of, order_of}
 use Rattle.tk_edge.specs.Memory.{has_passed_with, leaves, some_passed}
-use Rattle.tk_script.specs.ScriptHost.{Scripts, IsPlayed, results_at, results_for, script_file, scripted_exit}
+use Rattle.tk_script.specs.ScriptHost.{Scripts, IsPlayed, RefusesScripted, results_at, results_for, script_file, scripted_exit}
 use Rattle.tk_edge.proofs.Logs.{nat_eq_true, push_at}
 use Rattle.tk_edge.proofs.Starts.{child_has, passed_found, some_has}
 use Rattle.std.specs.Cmp.{both_ways}
@@ -157,6 +157,7 @@ widened s told table begun passed exits n wide more same_table same_begun i = re
   armings = i.armings;
   ends = i.ends;
   count = i.count;
+  refuses = i.refuses;
 }
 
 -- an event that changes no file
@@ -167,13 +168,13 @@ module _ (s : Scripts) (told : List Event) (table : List ℕ → Option Held) (b
       subst (λ (h : List Event). IsPlayed s h table begun passed exits m) (sym tells) (subst (λ (k : ℕ). IsPlayed s (e ∷ told) table begun passed exits k) (sym same) j)
 
   pub played_failed_put : (path bytes : List ℕ) (now : List Event) (m : ℕ) → now ≡ events.Put path bytes false ∷ told → m ≡ n → IsPlayed s now table begun passed exits m
-  played_failed_put path bytes now m tells same = as_before (events.Put path bytes false) (record { files = i.files; puts = i.puts; begins = i.begins; passes = λ pod p. i.passes pod p ∙ sym (passed_same pod p told ((events.Put path bytes false) ∷ told) (λ c. refl) (λ c. refl)); orders = i.orders; armings = i.armings; ends = i.ends; count = i.count }) now m tells same
+  played_failed_put path bytes now m tells same = as_before (events.Put path bytes false) (record { files = i.files; puts = i.puts; begins = i.begins; passes = λ pod p. i.passes pod p ∙ sym (passed_same pod p told ((events.Put path bytes false) ∷ told) (λ c. refl) (λ c. refl)); orders = i.orders; armings = i.armings; ends = i.ends; count = i.count; refuses = (tt, i.refuses) }) now m tells same
 
   pub played_failed_clear : (folder : List ℕ) (now : List Event) (m : ℕ) → now ≡ events.Cleared folder false ∷ told → m ≡ n → IsPlayed s now table begun passed exits m
-  played_failed_clear folder now m tells same = as_before (events.Cleared folder false) (record { files = i.files; puts = i.puts; begins = i.begins; passes = λ pod p. i.passes pod p ∙ sym (passed_same pod p told ((events.Cleared folder false) ∷ told) (λ c. refl) (λ c. refl)); orders = i.orders; armings = i.armings; ends = i.ends; count = i.count }) now m tells same
+  played_failed_clear folder now m tells same = as_before (events.Cleared folder false) (record { files = i.files; puts = i.puts; begins = i.begins; passes = λ pod p. i.passes pod p ∙ sym (passed_same pod p told ((events.Cleared folder false) ∷ told) (λ c. refl) (λ c. refl)); orders = i.orders; armings = i.armings; ends = i.ends; count = i.count; refuses = (tt, i.refuses) }) now m tells same
 
   pub played_fetch : (path : List ℕ) (bytes : Option (List ℕ)) (now : List Event) (m : ℕ) → now ≡ events.Fetched path bytes ∷ told → m ≡ n → IsPlayed s now table begun passed exits m
-  played_fetch path bytes now m tells same = as_before (events.Fetched path bytes) (record { files = i.files; puts = i.puts; begins = i.begins; passes = λ pod p. i.passes pod p ∙ sym (passed_same pod p told ((events.Fetched path bytes) ∷ told) (λ c. refl) (λ c. refl)); orders = i.orders; armings = i.armings; ends = i.ends; count = i.count }) now m tells same
+  played_fetch path bytes now m tells same = as_before (events.Fetched path bytes) (record { files = i.files; puts = i.puts; begins = i.begins; passes = λ pod p. i.passes pod p ∙ sym (passed_same pod p told ((events.Fetched path bytes) ∷ told) (λ c. refl) (λ c. refl)); orders = i.orders; armings = i.armings; ends = i.ends; count = i.count; refuses = (tt, i.refuses) }) now m tells same
 
   pub played_put : (path bytes key held : List ℕ) (after : List ℕ → Option Held) (now : List Event) (m : ℕ) → now ≡ events.Put path bytes true ∷ told → m ≡ n → path ≡ key → bytes ≡ held
       → ((q : List ℕ) → bytes_at after q ≡ (if bytes_eq q key then Some held else bytes_at table q)) → ((q : List ℕ) → put_at after q ≡ ((true && bytes_eq q key) || put_at table q)) → IsPlayed s now after begun passed exits m
@@ -186,6 +187,7 @@ module _ (s : Scripts) (told : List Event) (table : List ℕ → Option Held) (b
     armings = i.armings;
     ends = i.ends;
     count = i.count;
+    refuses = (tt, i.refuses);
   })
 
   pub played_clear : (folder key : List ℕ) (after : List ℕ → Option Held) (now : List Event) (m : ℕ) → now ≡ events.Cleared folder true ∷ told → m ≡ n → folder ≡ key
@@ -199,11 +201,12 @@ module _ (s : Scripts) (told : List Event) (table : List ℕ → Option Held) (b
     armings = i.armings;
     ends = i.ends;
     count = i.count;
+    refuses = (tt, i.refuses);
   })
 
   pub played_refused : (child : ℕ) (at : List ℕ → Bool) (after : List ℕ → Option Held) (now : List Event) (m : ℕ) → now ≡ events.Refused child ∷ told → m ≡ n → ((q : List ℕ) → at q ≡ leaves q None (arming_of child told))
-      → ((q : List ℕ) → bytes_at after q ≡ (if at q then Some [] else bytes_at table q)) → ((q : List ℕ) → put_at after q ≡ put_at table q) → IsPlayed s now after begun passed exits m
-  played_refused child at after now m tells same is wrote marked = rw (tells, same) (record {
+      → ((q : List ℕ) → bytes_at after q ≡ (if at q then Some [] else bytes_at table q)) → ((q : List ℕ) → put_at after q ≡ put_at table q) → RefusesScripted s (events.Refused child) told → IsPlayed s now after begun passed exits m
+  played_refused child at after now m tells same is wrote marked found = rw (tells, same) (record {
     files = λ q. wrote q ∙ (ap (λ b. if b then Some [] else bytes_at table q) (is q) ∙ ap (λ o. if leaves q None (arming_of child told) then Some [] else o) (i.files q));
     puts = λ q. marked q ∙ i.puts q;
     begins = i.begins;
@@ -212,6 +215,7 @@ module _ (s : Scripts) (told : List Event) (table : List ℕ → Option Held) (b
     armings = i.armings;
     ends = i.ends;
     count = i.count;
+    refuses = (found, i.refuses);
   })
 
   pub played_exited : (child exit : ℕ) (at : List ℕ → Bool) (pass : List ℕ → List ℕ → Bool) (after : List ℕ → Option Held) (now : List Event) (grown : List ℕ → List (List ℕ)) (m : ℕ) → now ≡ events.Exited child exit ∷ told → m ≡ n → slice_index_or exits child 0 ≡ exit → exit_of child told ≡ None
@@ -233,6 +237,7 @@ module _ (s : Scripts) (told : List Event) (table : List ℕ → Option Held) (b
       | inr miss ↦ i.ends other code (rw miss at ended)
     ];
     count = i.count;
+    refuses = (tt, i.refuses);
   })
 
   -- the results of a first start
@@ -261,6 +266,7 @@ module _ (s : Scripts) (told : List Event) (table : List ℕ → Option Held) (b
     armings = i.armings;
     ends = i.ends;
     count = i.count;
+    refuses = (tt, i.refuses);
   })
 
   pushed : (exit c : ℕ) → nat_eq c n ≡ false → slice_index_or (exits ++ exit ∷ []) c 0 ≡ slice_index_or exits c 0
@@ -309,6 +315,7 @@ module _ (s : Scripts) (told : List Event) (table : List ℕ → Option Held) (b
         ];
         ends = old_ends exit fresh;
         count = rw (← grows) count;
+        refuses = (tt, i.refuses);
       })
 
   pub played_started : (child : ℕ) (order : Order) (name : List ℕ) (results : List (List ℕ × List ℕ)) (after : List ℕ → Option Held) (more_begun : List ℕ → Bool) (exit : ℕ) (later : List ℕ) (now : List Event) (m : ℕ)
@@ -333,6 +340,7 @@ module _ (s : Scripts) (told : List Event) (table : List ℕ → Option Held) (b
         armings = old_armings exit fresh;
         ends = old_ends exit fresh;
         count = rw (← grows) count;
+        refuses = (tt, i.refuses);
       })
 
 -- nothing is told
@@ -348,6 +356,7 @@ played_new s told table begun passed exits n none no_file not_begun no_pass no_e
   armings = λ c a is. cc;
   ends = λ c e is. cc;
   count = refl;
+  refuses = tt;
 })
 
 -- rooms were made

@@ -19,7 +19,8 @@ use Rattle.tk_edge.specs.Files.{IsOwnFile, IsWatchFile, broken}
 use Rattle.tk_edge.specs.History.{Has, StillWaits, arming_of, is_refused, order_of}
 use Rattle.tk_edge.specs.Markers.{FitsMarkers, FollowsMarkers}
 use Rattle.tk_edge.specs.Memory.{leaves}
-use Rattle.tk_script.specs.ScriptHost.{IsScripted, Scripts, files_in, first_watch, has_begun, is_plain, may_start, result_of, results_of, script_file, script_files, script_of, script_watch, waiting_watch}
+use Rattle.tk_edge.specs.Plays.{IsPlayed, first_watch, may_start}
+use Rattle.tk_script.specs.ScriptHost.{IsScripted, RefusesScripted, Scripts, files_in, has_begun, is_plain, plays_with, result_of, results_of, script_file, script_files, script_of, script_watch, waiting_watch}
 use Rattle.tk_edge.proofs.Starts.{both, leaves_own, may_start_iff}
 
 pub script_put : (s : Scripts) (path bytes : List ℕ) (h : List Event) → script_file s path (events.Put path bytes true ∷ h) ≡ Some bytes
@@ -88,6 +89,19 @@ fits s told a (Some e) there may is_err is_there is_may = record { it = e; is = 
 fits s told a None (Some b) true is_err is_there is_may = (no_file _ _ is_err, record { it = b; is = is_there; has = tt })
 fits s told a None (Some b) false is_err is_there is_may = (no_file _ _ is_err, λ stands starts. (let now = (may_start_iff a told _ _ refl refl).1 starts in let both : true ≡ false = sym now ∙ is_may in cc))
 fits s told a None None may is_err is_there is_may = (no_file _ _ is_err, λ stands starts. no_file _ _ is_there stands)
+
+-- what an entry finds that is refused
+pub broken_found : (s : Scripts) (child : ℕ) (told : List Event) (arming : Arming) → arming_of child told ≡ Some arming → true ≡ is_some (script_file s (broken arming.wait) told) → RefusesScripted s (events.Refused child) told
+broken_found s child told arming armed stands = record { it = arming; is = armed; has = there (script_file s (broken arming.wait) told) refl stands }
+  where
+    there : (o : Option (List ℕ)) → script_file s (broken arming.wait) told ≡ o → true ≡ is_some o → Has (script_file s (broken arming.wait) told) (λ bytes. Unit {0})
+    there None is none = cc
+    there (Some bytes) is some = record { it = bytes; is = is; has = tt }
+
+-- a watch by the script is what the host plays, where it plays
+pub watch_plays : (failing : List ℕ) (s : Scripts) (killed : Bool) (child : ℕ) (told : List Event) (watch : Watch) → IsScripted s killed child told watch → IsPlayed (plays_with failing s) killed child told watch
+watch_plays [] s killed child told watch scripted = scripted
+watch_plays (call ∷ calls) s killed child told watch scripted = tt
 
 pub markers_hold : (s : Scripts) (killed : Bool) (child : ℕ) (told : List Event) (watch : Watch) → IsScripted s killed child told watch → FollowsMarkers child killed told (Some (script_files s told)) watch
 markers_hold s killed child told watch scripted waits alive =

@@ -1,5 +1,5 @@
 -- A host in memory that plays scripts: the exits of its steps, its files and its answers, by its history.
-use Rattle.std.specs.Prelude.{◌≡◌, length, ℕ, Bool, true, false, not, nat_eq, ◌||◌, ◌&&◌, ◌++◌, bytes_eq, codes, if◌then◌else◌, List, [], ◌∷◌, Option, Some, None, find, filter, map, slice_index_or, is_some, Contains, Result, MatchResult}
+use Rattle.std.specs.Prelude.{◌≡◌, length, ℕ, Bool, true, false, not, nat_eq, ◌||◌, ◌&&◌, ◌++◌, bytes_eq, codes, if◌then◌else◌, List, [], ◌∷◌, Option, Some, None, find, filter, map, slice_index_or, Contains, Result, MatchResult}
 use Rattle.std.specs.List.{list_any, slice_get}
 use Rattle.std.specs.Map.{lookup}
 use Rattle.std.specs.Option.{option_or}
@@ -18,9 +18,10 @@ use Rattle.tk_edge.specs.declared.order.Watch.TheVariants as watches
 use Rattle.tk_edge.specs.Files.{Files, broken, is_under}
 use Rattle.tk_script.specs.declared.file_table.Held.{Held}
 use Rattle.tk_script.specs.FileTable.{bytes_at, put_at}
-use Rattle.tk_edge.specs.History.{Has, arming_of, exit_of, is_refused, order_of, was_put}
+use Rattle.tk_edge.specs.History.{Has, arming_of, exit_of, order_of, was_put}
 use Rattle.tk_edge.specs.HostLog.{Logged}
-use Rattle.tk_edge.specs.Memory.{ended_watch, leaves, some_passed}
+use Rattle.tk_edge.specs.Memory.{leaves, some_passed}
+use Rattle.tk_edge.specs.Plays.{Play, played_watch, waiting_watch as waits_by}
 
 -- the folder of all pods, and the scripts
 pub record Scripts : Type 0 where
@@ -100,8 +101,18 @@ EndsOrder scripts told child exit = (order : Order) → order_of child told ≡ 
 abbrev pub EndsArmed : Scripts → List Event → ℕ → ℕ → Type 0
 EndsArmed scripts told child exit = (arming : Arming) → arming_of child told ≡ Some arming → exit ≡ scripted_exit scripts.pods arming.order
 
+-- an entry that is refused finds its wait file with `.err`
+abbrev pub RefusesScripted : Scripts → Event → List Event → Type 0
+RefusesScripted scripts (events.Refused child) older = Has (arming_of child older) (λ arming. Has (script_file scripts (broken arming.wait) older) (λ bytes. Unit {0}))
+RefusesScripted scripts _ older = Unit {0}
+
+-- each entry that was refused found it
+abbrev pub RefuseAsScripted : Scripts → List Event → Type 0
+RefuseAsScripted scripts [] = Unit {0}
+RefuseAsScripted scripts (e ∷ older) = RefusesScripted scripts e older × RefuseAsScripted scripts older
+
 -- an index of a history: the files that stand and whether they were put, the pods of which a step was started, the pods
--- that passed with each post file, and the scripted exit of each child
+-- that passed with each post file, and the scripted exit of each child; each refusal had its cause
 pub record IsPlayed (scripts : Scripts) (told : List Event) (table : List ℕ → Option Held)
     (begun : List ℕ → Bool) (passed : List ℕ → List (List ℕ)) (exits : List ℕ) (children : ℕ) : Type 0 where
   pub files : (path : List ℕ) → bytes_at table path ≡ script_file scripts path told
@@ -112,34 +123,24 @@ pub record IsPlayed (scripts : Scripts) (told : List Event) (table : List ℕ �
   pub armings : (child : ℕ) → EndsArmed scripts told child (slice_index_or exits child 0)
   pub ends : (child exit : ℕ) → exit_of child told ≡ Some exit → slice_index_or exits child 0 ≡ exit
   pub count : length exits ≡ children
+  pub refuses : RefuseAsScripted scripts told
 
 -- a record of a history that plays scripts, as contracts see it
 pub record Played : Type 0 where
   pub scripts : Scripts
   pub log : Logged
 
--- an armed entry starts, by what the host did
-abbrev pub may_start : Arming → List Event → Bool
-may_start arming told = was_put arming.wait told || some_passed arming.order.pod arming.wait told told
+-- what such a host plays: the scripted exits, and its files by its history
+abbrev pub play_of : Scripts → Play
+play_of scripts = record { exit = λ pod step. exit_in (script_of scripts.pods pod) step; files = script_files scripts }
 
--- the answer of an entry that waits: whether its wait file stands with `.err`, and whether it stands and the entry may start
-abbrev pub first_watch : Bool → Bool → Watch
-first_watch true ready = watches.Broke None
-first_watch false true = watches.Started
-first_watch false false = watches.Waits
-
--- the same, by its files
+-- the answer of an entry that waits, by the files that stand
 abbrev pub waiting_watch : Scripts → List Event → Arming → Watch
-waiting_watch scripts told arming =
-    first_watch (is_some (script_file scripts (broken arming.wait) told)) (is_some (script_file scripts arming.wait told) && may_start arming told)
+waiting_watch scripts told arming = waits_by (script_files scripts told) told arming
 
 -- the answer of each watch of an armed child
 abbrev pub script_watch : Scripts → Bool → ℕ → List Event → Arming → Watch
-script_watch scripts killed child told arming =
-    if is_some (order_of child told) then ended_watch arming.keep_going (scripted_exit scripts.pods arming.order)
-    else if is_refused child told then watches.Broke None
-    else if killed then watches.Waits
-    else waiting_watch scripts told arming
+script_watch scripts killed child told arming = played_watch (play_of scripts) killed child told arming
 
 -- what a watch of a child answers by its script
 abbrev pub IsScripted : Scripts → Bool → ℕ → List Event → Watch → Type 0
@@ -157,6 +158,18 @@ pub record Playing : Type 0 where
   pub failing : List ℕ
   pub calls : ℕ
   pub faults : ℕ
+
+-- what a host plays: its script, unless a call is to fail
+abbrev pub plays_with : List ℕ → Scripts → Option Play
+plays_with [] scripts = Some (play_of scripts)
+plays_with (call ∷ calls) scripts = None
+
+abbrev pub plays_of : Playing → Option Play
+plays_of host = plays_with host.failing host.scripts
+
+-- each exit that was found is the scripted one
+abbrev pub EndAsScripted : Scripts → List Event → Type 0
+EndAsScripted scripts told = (child exit : ℕ) (order : Order) → exit_of child told ≡ Some exit → order_of child told ≡ Some order → exit ≡ scripted_exit scripts.pods order
 
 -- all files of a host, which it tells
 abbrev pub files_of : Playing → Option Files

@@ -9,7 +9,8 @@ ghost use Rattle.tk_edge.specs.Files.{IsIn, IsOwnFile, MayChange, WhereTold, is_
 ghost use Rattle.tk_edge.specs.History.{Has, arming_of};
 ghost use Rattle.tk_edge.specs.HostLog.{counts, flags};
 ghost use Rattle.tk_edge.specs.Markers.{FollowsMarkers, IsFileOf, IsPolledFile};
-ghost use Rattle.tk_script.specs.ScriptHost.{FollowsScript, IsScripted, PollsScripted, files_of, script_files};
+ghost use Rattle.tk_edge.specs.Plays.{IsPlayed};
+ghost use Rattle.tk_script.specs.ScriptHost.{EndAsScripted, FollowsScript, IsScripted, PollsScripted, RefuseAsScripted, files_of, plays_of, script_files};
 
 use crate::pod_script::PodScript;
 use crate::script_log::ScriptLog;
@@ -30,6 +31,7 @@ pub struct ScriptHost {
 }
 
 impl Model for ScriptHost {
+    ghost use Rattle.std.specs.Prelude.{◌≡◌, []};
     ghost use Rattle.tk_script.specs.ScriptHost.{Playing};
 
     ghost Value = { Playing };
@@ -41,6 +43,8 @@ impl Model for ScriptHost {
       calls = h.failures.calls;
       faults = h.failures.faults;
     } };
+
+    ghost invariant = { λ h. h.failures.failing ≡ [] → h.failures.faults ≡ 0 };
 }
 
 impl ScriptHost {
@@ -77,6 +81,16 @@ impl ScriptHost {
         self.played.log().arming(child).is_some()
     }
 
+    /// Does nothing: each exit so far is its script's, each entry that was refused found its wait file with `.err`, and no
+    /// call failed where none is to fail.
+    pub fn follows_script(&self)
+        ensures exits { EndAsScripted self.now.scripts self.now.log.told }
+        ensures refusals { RefuseAsScripted self.now.scripts self.now.log.told }
+        ensures sure { self.now.failing ≡ [] → self.now.faults ≡ 0 }
+    {
+        self.played.follows_script();
+    }
+
     /// How many calls failed; at 2^64 - 1 it stands still. It takes no memory.
     pub fn faults(&self) -> u64
         ensures { result ≡ ⟦<ScriptHost as Host>⟧.faults self.now }
@@ -94,6 +108,8 @@ impl Host for ScriptHost {
 
     ghost files = { λ host. files_of host };
 
+    ghost plays = { λ host. plays_of host };
+
     ghost faults = { λ host. host.faults };
 
     fn clear(&mut self, folder: &str) -> Result<(), Miss>
@@ -102,6 +118,7 @@ impl Host for ScriptHost {
         ensures empty { OnOk result (WhereTold (files_of self.new) (λ f. (path : List ℕ) → is_under folder.now path ≡ true → f path ≡ None)) }
         ensures killed { flags self.new.log.killed ≡ flags self.old.log.killed }
         ensures watches { counts self.new.log.watches ≡ counts self.old.log.watches }
+        ensures plays { plays_of self.new ≡ plays_of self.old }
         ensures count { Counts self.old.faults self.new.faults result }
         ensures scripted { FollowsScript self.old.failing self.old.calls result }
         ensures counted { self.new.calls ≡ min (self.old.calls + 1) (2 ^ 64 - 1) }
@@ -123,6 +140,7 @@ impl Host for ScriptHost {
         ensures written { OnOk result (WhereTold (files_of self.new) (λ f. f path.now ≡ Some bytes.now)) }
         ensures killed { flags self.new.log.killed ≡ flags self.old.log.killed }
         ensures watches { counts self.new.log.watches ≡ counts self.old.log.watches }
+        ensures plays { plays_of self.new ≡ plays_of self.old }
         ensures count { Counts self.old.faults self.new.faults result }
         ensures scripted { FollowsScript self.old.failing self.old.calls result }
         ensures counted { self.new.calls ≡ min (self.old.calls + 1) (2 ^ 64 - 1) }
@@ -144,6 +162,7 @@ impl Host for ScriptHost {
         ensures files { script_files self.new.scripts self.new.log.told ≡ script_files self.old.scripts self.old.log.told }
         ensures killed { flags self.new.log.killed ≡ flags self.old.log.killed }
         ensures watches { counts self.new.log.watches ≡ counts self.old.log.watches }
+        ensures plays { plays_of self.new ≡ plays_of self.old }
         ensures count { Counts self.old.faults self.new.faults result }
         ensures scripted { IsErrOf result Fails ↔ Contains self.old.failing self.old.calls }
         ensures memory { OnErr result (result ≡ Err Fails) }
@@ -164,6 +183,7 @@ impl Host for ScriptHost {
         ensures files { script_files self.new.scripts self.new.log.told ≡ script_files self.old.scripts self.old.log.told }
         ensures killed { flags self.new.log.killed ≡ flags self.old.log.killed }
         ensures watches { counts self.new.log.watches ≡ counts self.old.log.watches }
+        ensures plays { plays_of self.new ≡ plays_of self.old }
         ensures count { Counts self.old.faults self.new.faults result }
         ensures scripted { IsErrOf result Fails ↔ Contains self.old.failing self.old.calls }
         ensures counted { self.new.calls ≡ min (self.old.calls + 1) (2 ^ 64 - 1) }
@@ -183,6 +203,7 @@ impl Host for ScriptHost {
         ensures others { MayChange (IsOwnFile order.now.pod) (files_of self.old) (files_of self.new) }
         ensures killed { flags self.new.log.killed ≡ flags self.old.log.killed }
         ensures watches { counts self.new.log.watches ≡ counts self.old.log.watches }
+        ensures plays { plays_of self.new ≡ plays_of self.old }
         ensures count { Counts self.old.faults self.new.faults result }
         ensures scripted { IsErrOf result Fails ↔ Contains self.old.failing self.old.calls }
         ensures counted { self.new.calls ≡ min (self.old.calls + 1) (2 ^ 64 - 1) }
@@ -201,6 +222,7 @@ impl Host for ScriptHost {
         ensures others { MayChange (IsPolledFile child self.old.log.told) (files_of self.old) (files_of self.new) }
         ensures killed { flags self.new.log.killed ≡ flags self.old.log.killed }
         ensures watches { counts self.new.log.watches ≡ counts self.old.log.watches }
+        ensures plays { plays_of self.new ≡ plays_of self.old }
         ensures count { Counts self.old.faults self.new.faults result }
         ensures scripted { IsErrOf result Fails ↔ Contains self.old.failing self.old.calls }
         ensures exit { IfOk result (PollsScripted self.old.scripts child self.old.log.told) }
@@ -227,6 +249,7 @@ impl Host for ScriptHost {
         ensures files { script_files self.new.scripts self.new.log.told ≡ script_files self.old.scripts self.old.log.told }
         ensures killed { flags self.new.log.killed ≡ flags self.old.log.killed }
         ensures watches { counts self.new.log.watches ≡ counts self.old.log.watches }
+        ensures plays { plays_of self.new ≡ plays_of self.old }
         ensures count { Counts self.old.faults self.new.faults result }
         ensures scripted { IsErrOf result Fails ↔ Contains self.old.failing self.old.calls }
         ensures counted { self.new.calls ≡ min (self.old.calls + 1) (2 ^ 64 - 1) }
@@ -251,9 +274,11 @@ impl Host for ScriptHost {
         ensures told { TellsWatch child self.old.log.told self.new.log.told result }
         ensures alive { IfOk result (λ watch. watch ≡ shown.Started → flags self.old.log.killed child ≡ false) }
         ensures markers { IfOk result (FollowsMarkers child (flags self.old.log.killed child) self.old.log.told (files_of self.old)) }
+        ensures played { IfOk result (IsPlayed (plays_of self.old) (flags self.old.log.killed child) child self.old.log.told) }
         ensures others { MayChange (IsFileOf child self.old.log.told) (files_of self.old) (files_of self.new) }
         ensures killed { flags self.new.log.killed ≡ flags self.old.log.killed }
         ensures watches { CountsWatch child (counts self.old.log.watches) (counts self.new.log.watches) result }
+        ensures plays { plays_of self.new ≡ plays_of self.old }
         ensures count { Counts self.old.faults self.new.faults result }
         ensures scripted { IsErrOf result Fails ↔ Contains self.old.failing self.old.calls }
         ensures exact { IfOk result (IsScripted self.old.scripts (flags self.old.log.killed child) child self.old.log.told) }
@@ -277,6 +302,7 @@ impl Host for ScriptHost {
         ensures watches { counts self.new.log.watches ≡ counts self.old.log.watches }
         ensures told { self.new.log.told ≡ self.old.log.told }
         ensures files { script_files self.new.scripts self.new.log.told ≡ script_files self.old.scripts self.old.log.told }
+        ensures plays { plays_of self.new ≡ plays_of self.old }
         ensures count { CountsFault self.old.faults self.new.faults result }
         ensures scripted { IsErr result ↔ Contains self.old.failing self.old.calls }
         ensures counted { self.new.calls ≡ min (self.old.calls + 1) (2 ^ 64 - 1) }

@@ -12,8 +12,9 @@ ghost use Rattle.tk_edge.specs.declared.event.Arming.{Arming as AnArming};
 ghost use Rattle.tk_edge.specs.declared.order.Order.{Order as AnOrder};
 ghost use Rattle.tk_script.specs.FileTable.{is_at, is_pass};
 ghost use Rattle.tk_edge.specs.Memory.{has_passed_with, leaves, post_of, some_passed};
+ghost use Rattle.tk_edge.specs.Plays.{may_start};
 ghost use Rattle.tk_edge.specs.HostLog.{counts, flags};
-ghost use Rattle.tk_script.specs.ScriptHost.{EndsArmed, EndsOrder, may_start, script_file};
+ghost use Rattle.tk_script.specs.ScriptHost.{EndAsScripted, EndsArmed, EndsOrder, RefuseAsScripted, RefusesScripted, script_file};
 
 use crate::file_table::{
     Held, add_pass, add_within, clear_below, held_bytes, is_named, is_put, leave_within, widen,
@@ -85,6 +86,14 @@ impl ScriptLog {
         ensures { result.now ≡ self.now.log }
     {
         &self.log
+    }
+
+    /// Does nothing: each exit so far is the scripted one, and each entry that was refused found its wait file with `.err`.
+    pub(crate) fn follows_script(&self)
+        ensures exits { EndAsScripted self.now.scripts self.now.log.told }
+        ensures refusals { RefuseAsScripted self.now.scripts self.now.log.told }
+    {
+        let _ = &self.exits;
     }
 
     /// The bytes of the file at a path.
@@ -340,6 +349,7 @@ impl ScriptLog {
     /// A child is refused: its wait file stood with `.err`.
     pub(crate) fn refuse(&mut self, child: u64) -> Result<(), AllocError>
         requires known { child < self.old.log.count }
+        requires found { RefusesScripted self.old.scripts (Refused child) self.old.log.told }
         ensures told { OnOk result (self.new.log.told ≡ Refused child ∷ self.old.log.told) }
         ensures same { OnErr result (self.new.log.told ≡ self.old.log.told) }
         ensures scripts { self.new.scripts ≡ self.old.scripts }

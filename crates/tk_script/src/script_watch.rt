@@ -8,8 +8,9 @@ ghost use Rattle.tk_edge.specs.declared.order.Watch.TheVariants as shown;
 ghost use Rattle.tk_edge.specs.Calls.{TellsExit, TellsPoll, TellsWatch};
 ghost use Rattle.tk_edge.specs.Causes.{IsWatchedOnce};
 ghost use Rattle.tk_edge.specs.History.{Has, StillWaits, arming_of, exit_of, is_refused, order_of};
+ghost use Rattle.tk_edge.specs.Plays.{may_start};
 ghost use Rattle.tk_edge.specs.HostLog.{counts, flags};
-ghost use Rattle.tk_script.specs.ScriptHost.{EndsArmed, EndsOrder, IsScripted, PollsScripted, may_start, script_file, waiting_watch};
+ghost use Rattle.tk_script.specs.ScriptHost.{EndsArmed, EndsOrder, IsScripted, PollsScripted, script_file, waiting_watch};
 
 use crate::script_log::ScriptLog;
 use std::alloc::AllocError;

@@ -5,8 +5,6 @@
 
 pub mod laws;
 mod paths;
-#[cfg(test)]
-mod tests;
 mod variables;
 
 pub use paths::{folder, folders};

@@ -1,4 +1,5 @@
 pub mod Adds
+pub mod Chain
 pub mod Gets
 pub mod Holds
 pub mod Moved

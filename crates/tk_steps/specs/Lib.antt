@@ -3,6 +3,7 @@ pub mod Kills
 pub mod May
 pub mod Moves
 pub mod Paths
+pub mod Played
 pub mod Ready
 pub mod Scripts
 pub mod Watched

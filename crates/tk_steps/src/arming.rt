@@ -25,6 +25,7 @@ fn prepare<H: Host>(alloc: Global, host: &mut H, root: &Text, pod: &HeldPod) -> 
     ensures quiet { count_actions (H.told host.new) ≡ count_actions (H.told host.old) }
     ensures killed { H.killed host.new ≡ H.killed host.old }
     ensures watches { H.watches host.new ≡ H.watches host.old }
+    ensures plays { H.plays host.new ≡ H.plays host.old }
     ensures count { Counts (H.faults host.old) (H.faults host.new) result }
 {
     let folder = folder_of(alloc, root, &pod.name)?;
@@ -63,6 +64,7 @@ fn launch_next<H: Host>(
     ensures quiet { count_actions (H.told host.new) ≡ count_actions (H.told host.old) }
     ensures killed { H.killed host.new ≡ H.killed host.old }
     ensures watches { H.watches host.new ≡ H.watches host.old }
+    ensures plays { H.plays host.new ≡ H.plays host.old }
     ensures count { Counts (H.faults host.old) (H.faults host.new) result }
 {
     let place = pod.steps.len();
@@ -98,6 +100,7 @@ fn make_ready<H: Host>(
     ensures quiet { count_actions (H.told host.new) ≡ count_actions (H.told host.old) }
     ensures killed { H.killed host.new ≡ H.killed host.old }
     ensures watches { H.watches host.new ≡ H.watches host.old }
+    ensures plays { H.plays host.new ≡ H.plays host.old }
     ensures count { Counts (H.faults host.old) (H.faults host.new) result }
 {
     if pod.ready {
@@ -127,6 +130,7 @@ fn launch_rest<H: Host>(
     ensures quiet { count_actions (H.told host.new) ≡ count_actions (H.told host.old) }
     ensures killed { H.killed host.new ≡ H.killed host.old }
     ensures watches { H.watches host.new ≡ H.watches host.old }
+    ensures plays { H.plays host.new ≡ H.plays host.old }
     ensures count { Counts (H.faults host.old) (H.faults host.new) result }
 {
     for _ in pod.steps.len()..pod.plan.orders.len() {
@@ -153,6 +157,7 @@ fn arm_steps<H: Host>(
     ensures quiet { count_actions (H.told host.new) ≡ count_actions (H.told host.old) }
     ensures killed { H.killed host.new ≡ H.killed host.old }
     ensures watches { H.watches host.new ≡ H.watches host.old }
+    ensures plays { H.plays host.new ≡ H.plays host.old }
     ensures count { Counts (H.faults host.old) (H.faults host.new) result }
 {
     make_ready(alloc, host, root, pod)?;
@@ -177,6 +182,7 @@ pub fn arm<H: Host>(
     ensures quiet { count_actions (H.told host.new) ≡ count_actions (H.told host.old) }
     ensures killed { H.killed host.new ≡ H.killed host.old }
     ensures watches { H.watches host.new ≡ H.watches host.old }
+    ensures plays { H.plays host.new ≡ H.plays host.old }
     ensures count { H.faults host.new ≡ counted pod.new.failed (H.faults host.old) }
 {
     match arm_steps(alloc, host, root, pod) {

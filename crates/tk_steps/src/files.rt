@@ -27,6 +27,7 @@ pub(crate) fn put_own<H: Host>(
     ensures quiet { count_actions (H.told host.new) ≡ count_actions (H.told host.old) }
     ensures killed { H.killed host.new ≡ H.killed host.old }
     ensures watches { H.watches host.new ≡ H.watches host.old }
+    ensures plays { H.plays host.new ≡ H.plays host.old }
     ensures count { Counts (H.faults host.old) (H.faults host.new) result }
 {
     host.put(path.as_str(), bytes)
@@ -48,6 +49,7 @@ pub(crate) fn clear_own<H: Host>(
     ensures quiet { count_actions (H.told host.new) ≡ count_actions (H.told host.old) }
     ensures killed { H.killed host.new ≡ H.killed host.old }
     ensures watches { H.watches host.new ≡ H.watches host.old }
+    ensures plays { H.plays host.new ≡ H.plays host.old }
     ensures count { Counts (H.faults host.old) (H.faults host.new) result }
 {
     host.clear(folder.as_str())

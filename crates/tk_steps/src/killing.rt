@@ -12,6 +12,7 @@ fn kill_step<H: Host>(host: &mut H, step: &HeldStep) -> bool
     requires { is_named step.now.child (H.told host.old) ≡ true }
     ensures told { H.told host.new ≡ H.told host.old }
     ensures watches { H.watches host.new ≡ H.watches host.old }
+    ensures plays { H.plays host.new ≡ H.plays host.old }
     ensures killed { step.now.exit ≡ None → H.killed host.new step.now.child ≡ true }
     ensures still { (child : ℕ) → H.killed host.old child ≡ true → H.killed host.new child ≡ true }
     ensures only { (child : ℕ) → H.killed host.new child ≡ true → (H.killed host.old child ≡ true) ⊎ ((step.now.exit ≡ None) × (step.now.child ≡ child)) }
@@ -25,6 +26,7 @@ fn kill_steps<H: Host>(host: &mut H, steps: &[HeldStep]) -> bool
     requires { AreNamed (H.told host.old) steps.now }
     ensures told { H.told host.new ≡ H.told host.old }
     ensures watches { H.watches host.new ≡ H.watches host.old }
+    ensures plays { H.plays host.new ≡ H.plays host.old }
     ensures killed { AreKilled (H.killed host.new) steps.now }
     ensures still { (child : ℕ) → H.killed host.old child ≡ true → H.killed host.new child ≡ true }
     ensures only { (child : ℕ) → H.killed host.new child ≡ true → (H.killed host.old child ≡ true) ⊎ IsLiving steps.now child }
@@ -43,6 +45,7 @@ pub fn kill<H: Host>(host: &mut H, pod: &HeldPod) -> bool
     requires { HoldsPod (H.told host.old) pod.now }
     ensures told { H.told host.new ≡ H.told host.old }
     ensures watches { H.watches host.new ≡ H.watches host.old }
+    ensures plays { H.plays host.new ≡ H.plays host.old }
     ensures killed { AreKilled (H.killed host.new) pod.now.steps.items }
     ensures still { (child : ℕ) → H.killed host.old child ≡ true → H.killed host.new child ≡ true }
     ensures only { (child : ℕ) → H.killed host.new child ≡ true → (H.killed host.old child ≡ true) ⊎ IsLiving pod.now.steps.items child }

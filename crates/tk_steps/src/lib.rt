@@ -16,4 +16,5 @@ mod watching;
 pub use arming::arm;
 pub use held::{HeldPod, HeldStep};
 pub use killing::kill;
+pub use paths::result_path;
 pub use watching::watch;

@@ -97,13 +97,8 @@ pub(crate) fn script_path(
     Ok(Text::from_string(path))
 }
 
-/// The file that a result is written to.
-pub(crate) fn result_path(
-    alloc: Global,
-    root: &Text,
-    pod: &Text,
-    name: &str,
-) -> Result<Text, AllocError>
+/// The file that a pod's result of this name is written to: `results/NAME` in the pod's folder.
+pub fn result_path(alloc: Global, root: &Text, pod: &Text, name: &str) -> Result<Text, AllocError>
     ensures { IfOk result (λ path. path ≡ result_of root.now pod.now name.now) }
 {
     let mut path = path_in(alloc, root, pod, "results")?;

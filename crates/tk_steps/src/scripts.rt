@@ -33,6 +33,7 @@ fn put_script<H: Host>(
     ensures quiet { count_actions (H.told host.new) ≡ count_actions (H.told host.old) }
     ensures killed { H.killed host.new ≡ H.killed host.old }
     ensures watches { H.watches host.new ≡ H.watches host.old }
+    ensures plays { H.plays host.new ≡ H.plays host.old }
     ensures count { Counts (H.faults host.old) (H.faults host.new) result }
 {
     let script = pod.plan.scripts.as_slice()[place].as_str();
@@ -59,6 +60,7 @@ pub(crate) fn put_scripts<H: Host>(
     ensures quiet { count_actions (H.told host.new) ≡ count_actions (H.told host.old) }
     ensures killed { H.killed host.new ≡ H.killed host.old }
     ensures watches { H.watches host.new ≡ H.watches host.old }
+    ensures plays { H.plays host.new ≡ H.plays host.old }
     ensures count { Counts (H.faults host.old) (H.faults host.new) result }
 {
     for place in 0..pod.plan.scripts.len() {

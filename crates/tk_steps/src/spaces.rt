@@ -57,6 +57,7 @@ fn clear_space<H: Host>(
     ensures quiet { count_actions (H.told host.new) ≡ count_actions (H.told host.old) }
     ensures killed { H.killed host.new ≡ H.killed host.old }
     ensures watches { H.watches host.new ≡ H.watches host.old }
+    ensures plays { H.plays host.new ≡ H.plays host.old }
     ensures count { Counts (H.faults host.old) (H.faults host.new) result }
 {
     let folder = &pod.plan.folders.as_slice()[place];
@@ -79,6 +80,7 @@ pub(crate) fn clear_spaces<H: Host>(
     ensures quiet { count_actions (H.told host.new) ≡ count_actions (H.told host.old) }
     ensures killed { H.killed host.new ≡ H.killed host.old }
     ensures watches { H.watches host.new ≡ H.watches host.old }
+    ensures plays { H.plays host.new ≡ H.plays host.old }
     ensures count { Counts (H.faults host.old) (H.faults host.new) result }
 {
     for place in 0..pod.plan.folders.len() {
@@ -118,6 +120,7 @@ fn put_space<H: Host>(
     ensures quiet { count_actions (H.told host.new) ≡ count_actions (H.told host.old) }
     ensures killed { H.killed host.new ≡ H.killed host.old }
     ensures watches { H.watches host.new ≡ H.watches host.old }
+    ensures plays { H.plays host.new ≡ H.plays host.old }
     ensures count { Counts (H.faults host.old) (H.faults host.new) result }
 {
     let path = space_file(alloc, root, &pod.name, &pod.plan.folders.as_slice()[place])?;
@@ -138,6 +141,7 @@ pub(crate) fn put_spaces<H: Host>(
     ensures quiet { count_actions (H.told host.new) ≡ count_actions (H.told host.old) }
     ensures killed { H.killed host.new ≡ H.killed host.old }
     ensures watches { H.watches host.new ≡ H.watches host.old }
+    ensures plays { H.plays host.new ≡ H.plays host.old }
     ensures count { Counts (H.faults host.old) (H.faults host.new) result }
 {
     for place in 0..pod.plan.folders.len() {

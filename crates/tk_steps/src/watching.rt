@@ -3,6 +3,7 @@ ghost use Rattle.std.specs.Prelude.{◌≡◌, ◌<◌, ◌≤◌, ◌⊎◌, �
 ghost use Rattle.tk_edge.specs.Causes.{Counts};
 ghost use Rattle.tk_steps.specs.Watched.{children_of, IsWatchedAt, IsWatchedPod, WatchesAt, WatchesPod};
 ghost use Rattle.tk_steps.specs.Held.{HoldsPod};
+ghost use Rattle.tk_steps.specs.Played.{WatchesStep, WatchesFrom};
 ghost use Rattle.tk_steps.specs.Ready.{ReadyIsSo};
 ghost use Rattle.tk_steps.specs.Moves.{Moves, Acts, seen as the_seen, acts as the_acts, counted};
 
@@ -51,9 +52,12 @@ fn watch_step<H: Host>(
     ensures steps { length pod.new.steps.items ≡ length pod.old.steps.items }
     ensures failed { pod.new.failed ≡ pod.old.failed }
     ensures killed { H.killed host.new ≡ H.killed host.old }
+    ensures plays { H.plays host.new ≡ H.plays host.old }
     ensures count { Counts (H.faults host.old) (H.faults host.new) result }
     ensures children { children_of pod.new ≡ children_of pod.old }
     ensures watched { OnOk result (IsWatchedAt pod.old place (H.watches host.old) (H.watches host.new)) }
+    ensures turn { OnOk result ((child : ℕ) → slice_get (children_of pod.old) place ≡ Some child
+        → WatchesStep (H.plays host.old) (H.killed host.old) pod.old.name place child (H.told host.old) (H.told host.new)) }
     ensures only { WatchesAt pod.old place (H.watches host.old) (H.watches host.new) }
 {
     let step = pod.steps[place];
@@ -71,9 +75,12 @@ fn watch_steps<H: Host>(host: &mut H, root: &Text, pod: &mut HeldPod) -> Result<
     ensures steps { length pod.new.steps.items ≡ length pod.old.steps.items }
     ensures failed { pod.new.failed ≡ pod.old.failed }
     ensures killed { H.killed host.new ≡ H.killed host.old }
+    ensures plays { H.plays host.new ≡ H.plays host.old }
     ensures count { Counts (H.faults host.old) (H.faults host.new) result }
     ensures children { children_of pod.new ≡ children_of pod.old }
     ensures watched { OnOk result (IsWatchedPod pod.old (H.watches host.old) (H.watches host.new)) }
+    ensures turns { OnOk result (WatchesFrom (H.plays host.old) (H.killed host.old) pod.old.name 0 (children_of pod.old)
+        (H.told host.old) (H.told host.new)) }
     ensures only { WatchesPod pod.old (H.watches host.old) (H.watches host.new) }
 {
     let mut acted = false;
@@ -93,9 +100,12 @@ pub fn watch<H: Host>(host: &mut H, root: &Text, pod: &mut HeldPod) -> Result<bo
     ensures actions { IfOk result (λ acted. pod.new.failed ≡ false → Acts acted (H.told host.old) (H.told host.new)) }
     ensures steps { length pod.new.steps.items ≡ length pod.old.steps.items }
     ensures killed { H.killed host.new ≡ H.killed host.old }
+    ensures plays { H.plays host.new ≡ H.plays host.old }
     ensures count { H.faults host.new ≡ counted pod.new.failed (H.faults host.old) }
     ensures children { children_of pod.new ≡ children_of pod.old }
     ensures watched { OnOk result (pod.new.failed ≡ false → IsWatchedPod pod.old (H.watches host.old) (H.watches host.new)) }
+    ensures turns { OnOk result (pod.new.failed ≡ false → WatchesFrom (H.plays host.old) (H.killed host.old) pod.old.name 0
+        (children_of pod.old) (H.told host.old) (H.told host.new)) }
     ensures only { WatchesPod pod.old (H.watches host.old) (H.watches host.new) }
 {
     match watch_steps(host, root, pod) {

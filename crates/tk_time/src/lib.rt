@@ -10,6 +10,3 @@ mod reading;
 pub use moment::print_moment;
 pub use printing::print_duration;
 pub use reading::read_duration;
-
-#[cfg(test)]
-mod tests;

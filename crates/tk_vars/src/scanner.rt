@@ -144,6 +144,3 @@ pub fn scan(alloc: Global, text: &str) -> Result<Pieces<'_>, ScanError>
     add_plain(&mut pieces, plain)?;
     Ok(Pieces::from_vec(pieces))
 }
-
-#[cfg(test)]
-mod tests;

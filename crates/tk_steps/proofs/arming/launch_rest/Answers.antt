@@ -19,6 +19,7 @@ loop-preserved g c = record {
   quiet = c.launch_next.ensures.quiet ∙ c.loop.invariant.quiet;
   killed = c.launch_next.ensures.killed ∙ c.loop.invariant.killed;
   watches = c.launch_next.ensures.watches ∙ c.loop.invariant.watches;
+  plays = c.launch_next.ensures.plays ∙ c.loop.invariant.plays;
   stays = λ so. c.launch_next.ensures.stays (c.loop.invariant.stays so);
   count = c.in_ok-launch_next.ensures.count ∙ c.loop.invariant.count;
 }

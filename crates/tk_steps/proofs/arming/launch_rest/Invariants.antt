@@ -16,6 +16,7 @@ invariant-loop g l = record {
   quiet : count_actions (g.H.Host.told l.host) ≡ count_actions (g.H.Host.told l.initial.host);
   killed : g.H.Host.killed l.host ≡ g.H.Host.killed l.initial.host;
   watches : g.H.Host.watches l.host ≡ g.H.Host.watches l.initial.host;
+  plays : g.H.Host.plays l.host ≡ g.H.Host.plays l.initial.host;
   count : g.H.Host.faults l.host ≡ g.H.Host.faults l.initial.host;
   stays : ReadyIsSo l.root l.initial.pod (g.H.Host.told l.initial.host) → ReadyIsSo l.root l.pod (g.H.Host.told l.host);
 }

@@ -12,6 +12,7 @@ invariant-loop-place g l = record {
   quiet : count_actions (g.H.Host.told l.host) ≡ count_actions (g.H.Host.told l.initial.host);
   killed : g.H.Host.killed l.host ≡ g.H.Host.killed l.initial.host;
   watches : g.H.Host.watches l.host ≡ g.H.Host.watches l.initial.host;
+  plays : g.H.Host.plays l.host ≡ g.H.Host.plays l.initial.host;
   count : g.H.Host.faults l.host ≡ g.H.Host.faults l.initial.host;
   scripts : (i : ℕ) (text : List ℕ) → i < l.place → slice_get l.pod.plan.scripts i ≡ Some text → (text ≡ []) ⊎ (last_put (script_path l.root l.pod.name i) (g.H.Host.told l.host) ≡ Some text);
   puts : KeepsPuts (g.H.Host.told l.initial.host) (g.H.Host.told l.host);

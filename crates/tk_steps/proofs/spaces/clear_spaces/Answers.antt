@@ -11,5 +11,6 @@ loop-place-preserved g c = record {
   quiet = c.clear_space.ensures.quiet ∙ c.loop-place.invariant.quiet;
   killed = c.clear_space.ensures.killed ∙ c.loop-place.invariant.killed;
   watches = c.clear_space.ensures.watches ∙ c.loop-place.invariant.watches;
+  plays = c.clear_space.ensures.plays ∙ c.loop-place.invariant.plays;
   count = c.in_ok-clear_space.ensures.count ∙ c.loop-place.invariant.count;
 }

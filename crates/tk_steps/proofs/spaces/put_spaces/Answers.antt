@@ -13,6 +13,7 @@ loop-place-preserved g c = record {
   quiet = c.put_space.ensures.quiet ∙ c.loop-place.invariant.quiet;
   killed = c.put_space.ensures.killed ∙ c.loop-place.invariant.killed;
   watches = c.put_space.ensures.watches ∙ c.loop-place.invariant.watches;
+  plays = c.put_space.ensures.plays ∙ c.loop-place.invariant.plays;
   count = c.in_ok-put_space.ensures.count ∙ c.loop-place.invariant.count;
   spaces = spaces_then c.args.root.now c.args.pod.now.name c.args.pod.now.plan c.loop-place.place _ _ c.in_ok-put_space.ensures.put (search rules) c.loop-place.invariant.spaces;
 }

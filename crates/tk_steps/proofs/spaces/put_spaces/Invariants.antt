@@ -11,6 +11,7 @@ invariant-loop-place g l = record {
   quiet : count_actions (g.H.Host.told l.host) ≡ count_actions (g.H.Host.told l.initial.host);
   killed : g.H.Host.killed l.host ≡ g.H.Host.killed l.initial.host;
   watches : g.H.Host.watches l.host ≡ g.H.Host.watches l.initial.host;
+  plays : g.H.Host.plays l.host ≡ g.H.Host.plays l.initial.host;
   count : g.H.Host.faults l.host ≡ g.H.Host.faults l.initial.host;
   spaces : (i : ℕ) (folder : List ℕ) → i < l.place → slice_get l.pod.plan.folders i ≡ Some folder → was_put (space_file l.root l.pod.name folder) (g.H.Host.told l.host) ≡ true;
 }

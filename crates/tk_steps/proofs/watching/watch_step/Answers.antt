@@ -4,6 +4,7 @@ use Rattle.tk_steps.specs.Moves.{Acts}
 use Rattle.tk_steps.proofs.Moved.{held_at, is_armed, watch_moves, watch_acts}
 use Rattle.std.proofs.Common.{◌∙◌}
 use Rattle.tk_steps.specs.Watched.{children_of}
+use Rattle.tk_steps.proofs.Chain.{step_watched}
 use Rattle.tk_steps.proofs.Once.{child_at, children_set, seen_child, hit, miss}
 use Rattle.tk_steps.proofs.watching.watch_step.Goals as goal
 
@@ -36,3 +37,8 @@ returns-clause-only g c =
     let at = held_at c.args.pod.now c.args.place c.index-step.result.now c.requires.within c.index-step.ensures in
     let own = child_at c.args.pod.now.steps.items c.args.place c.index-step.result.now at in
     miss (children_of c.args.pod.now) c.args.place c.index-step.result.now.child own (g.H.Host.watches c.args.host.now) (g.H.Host.watches c.watch.new.self) c.in_ok-watch.ensures.watches
+
+pub returns-clause-turn : goal.returns-clause-turn
+returns-clause-turn g c =
+    let at = held_at c.args.pod.now c.args.place c.index-step.result.now c.requires.within c.index-step.ensures in
+    step_watched (g.H.Host.plays c.args.host.now) (g.H.Host.killed c.args.host.now) c.args.pod.now c.args.place c.index-step.result.now (g.H.Host.told c.args.host.now) (g.H.Host.told c.watch.new.self) c.requires.holds at c.in_ok-watch.watch c.in_ok-watch.ensures.told c.in_ok-watch.ensures.played

@@ -1,0 +1,16 @@
+pub mod Again
+pub mod Every
+pub mod Examples
+pub mod Grown
+pub mod Kept
+pub mod Lasts
+pub mod Left
+pub mod Moving
+pub mod Nothing
+pub mod Origins
+pub mod Others
+pub mod Plays
+pub mod Runs
+pub mod Stays
+pub mod Under
+pub mod Watches

@@ -1,0 +1,5 @@
+use Rattle.tk_held.proofs.Origins.{legal_is_planned}
+use Rattle.tk_held.proofs.laws.legal_is_planned.Goals as goal
+
+pub returns : goal.returns
+returns c = legal_is_planned

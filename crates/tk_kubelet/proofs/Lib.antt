@@ -1,0 +1,10 @@
+pub mod Chosen
+pub mod Claims
+pub mod Concluded
+pub mod Earlier
+pub mod Entered
+pub mod Found
+pub mod Judged
+pub mod Justified
+pub mod Rows
+pub mod Turned

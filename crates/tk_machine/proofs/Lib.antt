@@ -1,0 +1,16 @@
+pub mod Pairs
+pub mod Claims
+pub mod Settling
+pub mod SettledLasts
+pub mod Kills
+pub mod Soundness
+pub mod Start
+pub mod Deeds
+pub mod Rounds
+pub mod Exits
+pub mod Walks
+pub mod Older
+pub mod Watching
+pub mod Moves
+pub mod Simulated
+pub mod Taking

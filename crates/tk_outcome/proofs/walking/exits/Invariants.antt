@@ -1,0 +1,9 @@
+use Rattle.std.proofs.Common.{◌≡◌, take}
+use Rattle.tk_outcome.specs.Exits.{exits_of}
+use Rattle.tk_outcome.proofs.walking.exits.Given as goal
+
+abbrev pub invariant-loop-step : goal.invariant-loop-step
+invariant-loop-step l = record {
+  same : l.step-items ≡ l.pod.steps.items;
+  exits : l.exits.items ≡ exits_of (take l.step-index l.pod.steps.items);
+}

@@ -1,0 +1,4 @@
+pub mod Exits
+pub mod Fetches
+pub mod Laws
+pub mod Walked

@@ -1,0 +1,11 @@
+pub mod Paths
+pub mod Own
+pub mod Spaces
+pub mod Markers
+pub mod Results
+pub mod Exits
+pub mod Tries
+pub mod Spared
+pub mod Watches
+pub mod Turn
+pub mod Start

@@ -1,0 +1,4 @@
+pub mod Own
+pub mod Scripts
+pub mod Start
+pub mod Turn

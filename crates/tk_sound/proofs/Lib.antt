@@ -1,0 +1,12 @@
+pub mod Bound
+pub mod Fitting
+pub mod Input
+pub mod Kept
+pub mod Legal
+pub mod Resolved
+pub mod SoundRuns
+pub mod Stars
+pub mod Steps
+pub mod Told
+pub mod Values
+pub mod Words
