@@ -1,0 +1,11 @@
+pub mod Asked
+pub mod Clock
+pub mod Grows
+pub mod Inside
+pub mod Moved
+pub mod Opens
+pub mod Played
+pub mod Restarted
+pub mod Started
+pub mod Steps
+pub mod Worked
