@@ -1,0 +1,9 @@
+pub mod AtEnd
+pub mod Behind
+pub mod Envs
+pub mod Few
+pub mod Labelled
+pub mod NoFloat
+pub mod NoneSkipped
+pub mod OnClock
+pub mod Order
