@@ -1,0 +1,5 @@
+pub mod Ends
+pub mod Played
+pub mod Runs
+pub mod Scripts
+pub mod Started
