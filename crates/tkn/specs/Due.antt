@@ -23,8 +23,6 @@ use Rattle.tk_verdict.specs.Verdict.{label_at}
 use Rattle.tk_journal.specs.declared.admitted.Admitted.{Admitted}
 use Rattle.tk_admit.specs.Admit.{admitted, input_fault}
 use Rattle.tkn.specs.declared.due.Due.{Due}
-use Rattle.tkn.specs.declared.command.Command.{Command}
-use Rattle.tkn.specs.declared.command.Command.TheVariants.{Check, Decide}
 
 -- the line of a task: its label, its name, and why it is skipped
 abbrev pub label_word : Verdict → List ℕ
@@ -95,23 +93,21 @@ abbrev pub IsRefusalDue : Rejected → Due → Type 0
 IsRefusalDue Memory due = ⊥
 IsRefusalDue (FaultFound fault) due = due ≡ rejected fault
 
--- the kinds of objects that a command reads
-abbrev pub kinds_of : Command → KindSet
-kinds_of Check = Four
-kinds_of Decide = WithOutcomes
-
 -- the folder below which a run's files would stand; these commands start none
 abbrev pub root : List ℕ
 root = codes "/work"
 
--- what is due for what is admitted, where no fault is found, and for the bytes of an input
-abbrev pub accepted : Command → Admitted → Due
-accepted Check found = checked found.objects
-accepted Decide found = decided_if_there found.outcomes
+-- what is due for an input: the line of its first fault, or what is due for what is admitted of it
+abbrev pub answered : (Admitted → Due) → Admitted → Finding → Due
+answered accepted found (Some fault) = rejected fault
+answered accepted found None = accepted found
 
-abbrev pub answered : Command → Admitted → Finding → Due
-answered command found (Some fault) = rejected fault
-answered command found None = accepted command found
+abbrev pub due_by : (Admitted → Due) → KindSet → List ℕ → Due
+due_by accepted kinds bytes = answered accepted (admitted kinds 0 root bytes) (input_fault kinds 0 bytes)
 
-abbrev pub due_of : Command → List ℕ → Due
-due_of command bytes = answered command (admitted (kinds_of command) 0 root bytes) (input_fault (kinds_of command) 0 bytes)
+-- what `check` and `decide` print for the bytes of an input
+abbrev pub check_due : List ℕ → Due
+check_due bytes = due_by (λ (found : Admitted). checked found.objects) Four bytes
+
+abbrev pub decide_due : List ℕ → Due
+decide_due bytes = due_by (λ (found : Admitted). decided_if_there found.outcomes) WithOutcomes bytes

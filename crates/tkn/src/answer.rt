@@ -1,30 +1,31 @@
-ghost use Rattle.std.specs.Prelude.{◌≡◌, IfOk};
+ghost use Rattle.std.specs.Prelude.{◌≡◌, [], IfOk};
 ghost use Rattle.std.specs.Option.{ForSome};
 ghost use Rattle.tk_types.specs.Fault.{too_long};
 ghost use Rattle.tk_verdict.specs.WellFormed.{IsWellFormed};
-ghost use Rattle.tkn.specs.Due.{accepted as accepted_by, decided as decided_facts, decided_if_there as decided_found, due_of, rejected as due_rejected, IsRefusalDue, kinds_of as kinds_of_command};
+ghost use Rattle.tk_journal.specs.Legal.{IsLegal};
+ghost use Rattle.tk_report.specs.Objects.{HasMoments};
+ghost use Rattle.tkn.specs.Answer.{IsAnswer, reported as reported_by};
+ghost use Rattle.tkn.specs.Due.{check_due, decide_due, decided as decided_facts, decided_if_there as decided_found, rejected as due_rejected, IsRefusalDue};
 
 use crate::command::Command;
-use crate::due::{Due, checked, decided, nothing, rejected};
+use crate::due::{Due, checked, decided, nothing, rejected, reported};
 use std::alloc::{AllocError, Global};
 use std::mem;
 use tk_admit::admit_with_document;
-use tk_journal::Admitted;
+use tk_journal::Journal;
 use tk_manifest::KindSet;
+use tk_simulate::simulate;
 use tk_types::{Detail, Facts, Fault, Place, Rejected};
 use tk_verdict::Decision;
 
 /// The folder below which a run's files would stand; `check` and `decide` start none.
 const ROOT: &str = "/work";
 
-/// The kinds of objects that a command reads.
-fn kinds_of(command: Command) -> KindSet
-    ensures { result ≡ kinds_of_command command }
-{
-    match command {
-        Command::Check => KindSet::Four,
-        Command::Decide => KindSet::WithOutcomes,
-    }
+/// What a command answers for an input: what is due, and the journal that its runs come to, which is empty where none ran.
+#[derive(Drop)]
+pub struct Answer {
+    pub due: Due,
+    pub journal: Journal,
 }
 
 /// What is due for the facts of a run.
@@ -56,17 +57,6 @@ fn decided_if_there(alloc: Global, facts: &Option<Facts>) -> Result<Due, AllocEr
     }
 }
 
-/// What is due for what is admitted.
-fn accepted(alloc: Global, command: Command, admitted: &Admitted) -> Result<Due, AllocError>
-    requires { ForSome admitted.now.outcomes IsWellFormed }
-    ensures { IfOk result (λ due. due ≡ accepted_by command admitted.now) }
-{
-    match command {
-        Command::Check => checked(alloc, admitted.objects),
-        Command::Decide => decided_if_there(alloc, &admitted.outcomes),
-    }
-}
-
 /// What is due for an input that is refused.
 fn refused(alloc: Global, refused: &Rejected) -> Result<Due, AllocError>
     ensures { IfOk result (IsRefusalDue refused.now) }
@@ -77,13 +67,13 @@ fn refused(alloc: Global, refused: &Rejected) -> Result<Due, AllocError>
     }
 }
 
-/// What is due for the bytes of an input.
-pub fn answer(alloc: Global, command: Command, bytes: &[u8]) -> Result<Due, AllocError>
-    ensures { IfOk result (λ due. due ≡ due_of command bytes.now) }
+/// What `check` prints for the bytes of an input.
+fn check(alloc: Global, bytes: &[u8]) -> Result<Due, AllocError>
+    ensures { IfOk result (λ due. due ≡ check_due bytes.now) }
 {
-    match admit_with_document(alloc, bytes, kinds_of(command), 0, ROOT) {
+    match admit_with_document(alloc, bytes, KindSet::Four, 0, ROOT) {
         Ok(admitted) => {
-            let due = accepted(alloc, command, admitted.get());
+            let due = checked(alloc, admitted.get().objects);
             // What was read and admitted goes with the program, which ends once this is printed.
             mem::forget(admitted);
             due
@@ -92,14 +82,64 @@ pub fn answer(alloc: Global, command: Command, bytes: &[u8]) -> Result<Due, Allo
     }
 }
 
-/// What is due for an input that is too long.
-pub fn too_long_answer(alloc: Global) -> Result<Due, AllocError>
-    ensures { IfOk result (λ due. due ≡ due_rejected too_long) }
+/// What `decide` prints for the bytes of an input.
+fn decide(alloc: Global, bytes: &[u8]) -> Result<Due, AllocError>
+    ensures { IfOk result (λ due. due ≡ decide_due bytes.now) }
+{
+    match admit_with_document(alloc, bytes, KindSet::WithOutcomes, 0, ROOT) {
+        Ok(admitted) => {
+            let due = decided_if_there(alloc, &admitted.get().outcomes);
+            mem::forget(admitted);
+            due
+        }
+        Err(error) => refused(alloc, &error),
+    }
+}
+
+/// What is due without a journal.
+fn without_journal(alloc: Global, due: Due) -> Answer
+    ensures due { result.due ≡ due }
+    ensures journal { result.journal.history ≡ [] }
+{
+    Answer {
+        due,
+        journal: Journal::empty(alloc),
+    }
+}
+
+/// What `simulate` answers for the bytes of an input.
+fn simulated(alloc: Global, json: bool, bytes: &[u8]) -> Result<Answer, AllocError>
+    ensures { IfOk result (IsAnswer (Command.Simulate json) bytes.now) }
+{
+    match simulate(alloc, bytes) {
+        Ok(journal) => Ok(Answer {
+            due: reported(alloc, json, &journal)?,
+            journal,
+        }),
+        Err(error) => Ok(without_journal(alloc, refused(alloc, &error)?)),
+    }
+}
+
+/// What a command answers for the bytes of an input.
+pub fn answer_of(alloc: Global, command: Command, bytes: &[u8]) -> Result<Answer, AllocError>
+    ensures { IfOk result (IsAnswer command bytes.now) }
+{
+    match command {
+        Command::Check => Ok(without_journal(alloc, check(alloc, bytes)?)),
+        Command::Decide => Ok(without_journal(alloc, decide(alloc, bytes)?)),
+        Command::Simulate { json } => simulated(alloc, json, bytes),
+    }
+}
+
+/// What a command answers for an input that is too long.
+pub fn too_long_answer(alloc: Global) -> Result<Answer, AllocError>
+    ensures due { IfOk result (λ answer. answer.due ≡ due_rejected too_long) }
+    ensures journal { IfOk result (λ answer. answer.journal.history ≡ []) }
 {
     let fault = Fault {
         number: 22,
         place: Place::root(alloc),
         detail: Detail::Nothing,
     };
-    rejected(alloc, &fault)
+    Ok(without_journal(alloc, rejected(alloc, &fault)?))
 }

@@ -1,5 +1,5 @@
-ghost use Rattle.std.specs.Prelude.{◌≡◌};
-ghost use Rattle.tkn.specs.Command.{command_named as command_named_by, command_of as command_of_words};
+ghost use Rattle.std.specs.Prelude.{◌≡◌, false, true};
+ghost use Rattle.tkn.specs.Command.{alone as alone_by, command_of as command_of_words, simulate_with};
 
 use tk_types::Text;
 
@@ -10,25 +10,56 @@ pub enum Command {
     Check,
     /// Decides a PipelineRun with the outcomes of its tasks.
     Decide,
+    /// Plays the runs of an input by its Scenario, and reports them as text or as JSON.
+    Simulate { json: bool },
 }
 
-/// The command of a word.
-fn command_named(word: &str) -> Option<Command>
-    ensures { result ≡ command_named_by word.now }
+/// A command that takes nothing more.
+fn alone(command: Command, rest: &[Text]) -> Option<Command>
+    ensures { result ≡ alone_by command rest.now }
 {
-    match word {
-        "check" => Some(Command::Check),
-        "decide" => Some(Command::Decide),
-        _ => None,
+    if rest.is_empty() { Some(command) } else { None }
+}
+
+/// `simulate` with the words behind `--json`.
+fn json_of(words: &[Text]) -> Option<Command>
+    ensures { result ≡ simulate_with true words.now }
+{
+    match words {
+        [] => Some(Command::Simulate { json: true }),
+        [word, rest @ ..] => match word.as_str() {
+            "--json" => None,
+            "--" => alone(Command::Simulate { json: true }, rest),
+            _ => None,
+        },
     }
 }
 
-/// The command that the words after the program's name are, if they are one; both commands take nothing more.
+/// `simulate` with the words behind it.
+fn simulate_of(words: &[Text]) -> Option<Command>
+    ensures { result ≡ simulate_with false words.now }
+{
+    match words {
+        [] => Some(Command::Simulate { json: false }),
+        [word, rest @ ..] => match word.as_str() {
+            "--json" => json_of(rest),
+            "--" => alone(Command::Simulate { json: false }, rest),
+            _ => None,
+        },
+    }
+}
+
+/// The command that the words after the program's name are, if they are one.
 pub fn command_of(words: &[Text]) -> Option<Command>
     ensures { result ≡ command_of_words words.now }
 {
     match words {
-        [word] => command_named(word.as_str()),
-        _ => None,
+        [] => None,
+        [word, rest @ ..] => match word.as_str() {
+            "check" => alone(Command::Check, rest),
+            "decide" => alone(Command::Decide, rest),
+            "simulate" => simulate_of(rest),
+            _ => None,
+        },
     }
 }

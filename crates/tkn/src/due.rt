@@ -4,9 +4,14 @@ ghost use Rattle.tk_verdict.specs.Condition.{results_of};
 ghost use Rattle.tk_verdict.specs.Facts.{all_tasks};
 ghost use Rattle.tk_verdict.specs.Texts.{skip_text as text_of_skip, stop_text as text_of_stop};
 ghost use Rattle.tk_verdict.specs.Verdict.{label_at as label_of_place};
+ghost use Rattle.tk_journal.specs.Legal.{IsLegal};
+ghost use Rattle.tk_report.specs.Objects.{HasMoments};
+ghost use Rattle.tkn.specs.Answer.{reported as reported_by, reported_text as text_of_report};
 ghost use Rattle.tkn.specs.Due.{checked as checked_objects, condition_words, decided_by, decided_if_there, label_line, label_reason, label_word as word_of_label, rejected as due_rejected, result_line, run_line, status_of as status_of_condition, task_line};
 
 use std::alloc::{AllocError, Global};
+use tk_journal::Journal;
+use tk_report::{report, report_json, status};
 use tk_results::json_text;
 use tk_types::{Condition, Facts, Fault, Param, PipelineTask, SkipReason, Stop, Text, Verdict};
 
@@ -225,5 +230,33 @@ pub fn checked(alloc: Global, objects: u64) -> Result<Due, AllocError>
     Ok(Due {
         status: 0,
         text: Text::from_string(text),
+    })
+}
+
+/// The report of a journal, as text or as JSON.
+fn reported_text(alloc: Global, json: bool, journal: &Journal) -> Result<Text, AllocError>
+    requires legal { IsLegal journal.now.history }
+    requires moments { HasMoments journal.now.history }
+    ensures { IfOk result (λ text. text ≡ text_of_report json journal.now.history) }
+{
+    if json {
+        let report = report_json(alloc, journal)?;
+        let mut text = String::from_str(alloc, report.as_str())?;
+        text.push_str("\n")?;
+        Ok(Text::from_string(text))
+    } else {
+        report(alloc, journal)
+    }
+}
+
+/// What is due for a journal: its report, and the status that it tells.
+pub fn reported(alloc: Global, json: bool, journal: &Journal) -> Result<Due, AllocError>
+    requires legal { IsLegal journal.now.history }
+    requires moments { HasMoments journal.now.history }
+    ensures { IfOk result (λ due. due ≡ reported_by json journal.now.history) }
+{
+    Ok(Due {
+        status: status(alloc, journal)?,
+        text: reported_text(alloc, json, journal)?,
     })
 }

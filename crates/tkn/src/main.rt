@@ -1,7 +1,8 @@
 //! The program `tkn`. `plain` carries out its words over any source and any sink, and its clauses say what a caller
 //! sees; `main` gives it the words, standard input and standard output, and says on standard error what is wrong where a
 //! status tells no more. What is due for the bytes of an input is defined in `specs/Due.antt`, over what `tk_admit`
-//! admits of them: the line of the first fault, the number of objects, or the lines of a run that is decided.
+//! admits of them: the line of the first fault, the number of objects, or the lines of a run that is decided; what
+//! `simulate` answers is defined in `specs/Answer.antt`, over the journal that `tk_simulate` plays.
 #![tactic(auto)]
 
 mod answer;
@@ -17,6 +18,8 @@ mod plain;
 #[cfg(test)]
 mod rule_tests;
 #[cfg(test)]
+mod simulate_tests;
+#[cfg(test)]
 mod tests;
 
 use plain::plain;
@@ -30,7 +33,7 @@ use tk_types::{List, Text};
 fn message(status: u8) -> Option<&'static str> {
     match status {
         2 => Some(
-            "tkn: no such command; usage: tkn check < INPUT.json, or tkn decide < INPUT.json",
+            "tkn: no such command; usage: tkn check < INPUT.json, tkn decide < INPUT.json, or tkn simulate [--json] < INPUT.json",
         ),
         4 => Some("tkn: standard input can't be read; give the input by < INPUT.json or by a pipe"),
         5 => Some(
