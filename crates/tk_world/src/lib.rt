@@ -10,5 +10,7 @@ mod node;
 mod stepped;
 mod world;
 
+pub use looking::is_open;
+pub use moves::deliver_all;
 pub use stepped::Stepped;
 pub use world::World;

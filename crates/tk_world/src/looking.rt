@@ -37,7 +37,7 @@ fn has_open_task_run(cache: &Cache) -> bool
 }
 
 /// Whether something is open by what the cache shows.
-pub(crate) fn is_open(cache: &Cache) -> bool
+pub fn is_open(cache: &Cache) -> bool
     ensures { result ≡ is_open_in (seen cache.now).view }
 {
     has_open_run(cache) || has_open_task_run(cache)

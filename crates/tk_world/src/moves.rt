@@ -22,7 +22,7 @@ pub(crate) enum Move {
 }
 
 /// Moves all three fronts to the journal's end. Without memory the cache is empty.
-pub(crate) fn deliver_all(cache: &mut Cache, journal: &Journal) -> Result<(), AllocError>
+pub fn deliver_all(cache: &mut Cache, journal: &Journal) -> Result<(), AllocError>
     requires legal { IsLegal journal.now.history }
     requires shows { Shows (seen cache.old) journal.now.history }
     ensures fronts { OnOk result (cache.new.fronts ≡ at_end journal.now.history) }

@@ -1,0 +1,5 @@
+pub mod Coverage
+pub mod Growing
+pub mod Parts
+pub mod Standing
+pub mod Took

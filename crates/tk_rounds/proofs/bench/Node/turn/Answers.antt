@@ -1,0 +1,9 @@
+use Rattle.tk_rounds.specs.Members.{of_kubelet}
+use Rattle.tk_rounds.specs.Turning.{place_of}
+use Rattle.tk_rounds.proofs.Standing.{turn_shows}
+use Rattle.tk_rounds.proofs.bench.Node.turn.Goals as goal
+
+pub returns-clause-shows : goal.returns-clause-shows
+returns-clause-shows g c =
+    turn_shows (of_kubelet c.args.self.now.kubelet.number) c.args.given (place_of g.K.Clock.readings g.K.Clock.last c.args.self.now.clock c.args.self.now.cache c.args.store.now)
+    (place_of g.K.Clock.readings g.K.Clock.last c.act-wrote.new.self.clock c.act-wrote.new.self.cache c.act-wrote.new.store) c.act-wrote.ensures.turn c.requires.shows

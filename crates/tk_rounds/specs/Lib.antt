@@ -1,0 +1,7 @@
+pub mod Bench
+pub mod Covered
+pub mod Follows
+pub mod Growth
+pub mod Members
+pub mod Timed
+pub mod Turning
