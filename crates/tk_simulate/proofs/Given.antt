@@ -31,11 +31,11 @@ Admits e = is_admit e.act ≡ true
 abbrev IsOnClock : Entry → Type 0
 IsOnClock e = e.moment ≤ last_moment
 
-admits_onto : (folder : List ℕ) (runs : List Taken) (older : List Entry) → AreAdmits older → AreAdmits (reverse_aux (map (entry_of folder) runs) older)
+pub admits_onto : (folder : List ℕ) (runs : List Taken) (older : List Entry) → AreAdmits older → AreAdmits (reverse_aux (map (entry_of folder) runs) older)
 admits_onto folder [] older admits = admits
 admits_onto folder (run ∷ runs) older admits = admits_onto folder runs (entry_of folder run ∷ older) (All-cons Admits (entry_of folder run) older refl admits)
 
-timely_onto : (folder : List ℕ) (runs : List Taken) (older : List Entry) → AreOnClock older → AreOnClock (reverse_aux (map (entry_of folder) runs) older)
+pub timely_onto : (folder : List ℕ) (runs : List Taken) (older : List Entry) → AreOnClock older → AreOnClock (reverse_aux (map (entry_of folder) runs) older)
 timely_onto folder [] older timely = timely
 timely_onto folder (run ∷ runs) older timely = timely_onto folder runs (entry_of folder run ∷ older) (All-cons IsOnClock (entry_of folder run) older (omega arith) timely)
 

@@ -1,0 +1,4 @@
+pub mod Came
+pub mod Onward
+pub mod Killed
+pub mod Starting

@@ -1,0 +1,3 @@
+pub mod Begun
+pub mod Run
+pub mod Going
