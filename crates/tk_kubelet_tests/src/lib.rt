@@ -1,0 +1,17 @@
+//! Tests of the kubelet, turn by turn, over a host that plays scripts: what each turn answers, and which entries it writes.
+#![tactic(auto)]
+
+#[cfg(test)]
+mod bench;
+#[cfg(test)]
+mod fault_tests;
+#[cfg(test)]
+mod given;
+#[cfg(test)]
+mod result_tests;
+#[cfg(test)]
+mod scripts;
+#[cfg(test)]
+mod telling;
+#[cfg(test)]
+mod turn_tests;
