@@ -1,0 +1,5 @@
+//! Runs of inputs on a bench in memory, to their end.
+#![tactic(auto)]
+
+#[cfg(test)]
+mod run_tests;
