@@ -30,7 +30,7 @@ use Rattle.tkn.specs.Due.{answered, decided_if_there, checked, due_by, IsRefusal
 use Rattle.tkn.specs.Plain.{IsReadDue, is_answer}
 
 -- the fault of an input that is longer than the longest
-longer_fault : (kinds : KindSet) (bytes : List ℕ) → 8388608 < length bytes → input_fault kinds 0 bytes ≡ Some too_long
+pub longer_fault : (kinds : KindSet) (bytes : List ℕ) → 8388608 < length bytes → input_fault kinds 0 bytes ≡ Some too_long
 longer_fault kinds bytes lt =
     let yes : nat_lt 8388608 (length bytes) ≡ true = grind (arith, nat_tests) in
     ap (λ (b : Bool). first_of (first_of (refused_if b too_long ∷ json_fault kinds (json_of bytes) ∷ []) ∷ items_fault kinds 0 (objects_of kinds bytes) ∷ [])) yes

@@ -4,3 +4,5 @@ pub mod Due
 pub mod Plain
 pub mod Unread
 pub mod Written
+pub mod Run
+pub mod RunWords

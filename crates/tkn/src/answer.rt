@@ -58,7 +58,7 @@ fn decided_if_there(alloc: Global, facts: &Option<Facts>) -> Result<Due, AllocEr
 }
 
 /// What is due for an input that is refused.
-fn refused(alloc: Global, refused: &Rejected) -> Result<Due, AllocError>
+pub(crate) fn refused(alloc: Global, refused: &Rejected) -> Result<Due, AllocError>
     ensures { IfOk result (IsRefusalDue refused.now) }
 {
     match refused {

@@ -5,6 +5,9 @@
 //! `simulate` answers is defined in `specs/Answer.antt`, over the journal that `tk_simulate` plays.
 #![tactic(auto)]
 
+ghost use Rattle.std.specs.Prelude.{IfOk};
+ghost use Rattle.tk_run.specs.Begun.{IsNewBench, IsNewController, IsNewNode};
+
 mod answer;
 mod command;
 #[cfg(test)]
@@ -17,23 +20,27 @@ mod output;
 mod plain;
 #[cfg(test)]
 mod rule_tests;
+mod run_words;
 #[cfg(test)]
 mod simulate_tests;
 #[cfg(test)]
 mod tests;
+mod top;
 
-use plain::plain;
-use std::alloc::Global;
+use std::alloc::{AllocError, Global};
 use std::process::ExitCode;
+use std::sync::Wait;
 use std::{env, io};
-use tk_edge::{ReadSource, WriteSink};
+use tk_edge::{Fresh, Host, ReadSource, RealHost, SystemClock, WriteSink};
+use tk_rounds::{Bench, Controller, Node};
 use tk_types::{List, Text};
+use top::tkn;
 
 /// What standard error says of a status, if anything.
 fn message(status: u8) -> Option<&'static str> {
     match status {
         2 => Some(
-            "tkn: no such command; usage: tkn check < INPUT.json, tkn decide < INPUT.json, or tkn simulate [--json] < INPUT.json",
+            "tkn: no such command; usage: tkn check < INPUT.json, tkn decide < INPUT.json, tkn simulate [--json] < INPUT.json, or tkn run [--json] [--root DIR] < INPUT.json",
         ),
         4 => Some("tkn: standard input can't be read; give the input by < INPUT.json or by a pipe"),
         5 => Some(
@@ -61,21 +68,82 @@ fn status_of(error: io::Error) -> u8 {
     }
 }
 
+/// The folders in which programs are looked for.
+fn path_of(rt: &HostRuntime, alloc: Global) -> Result<String, AllocError> {
+    match env::var(rt, "PATH") {
+        Ok(path) => Ok(path),
+        Err(_) => String::from_str(alloc, "/usr/local/bin:/usr/bin:/bin"),
+    }
+}
+
+/// A controller over the system's clock, whose gate keeps its cache fresh.
+fn controller(rt: &HostRuntime, alloc: Global) -> Controller<SystemClock<&HostRuntime>, Fresh>
+    ensures { IsNewController result }
+{
+    Controller::new(alloc, SystemClock::new(rt), Fresh::new())
+}
+
+/// A node over the system's clock, its folders and its programs, whose gate keeps its cache fresh.
+fn node<'a>(
+    rt: &'a HostRuntime,
+    alloc: Global,
+    path: &str,
+) -> Result<Node<SystemClock<&'a HostRuntime>, RealHost<'a, HostRuntime>, Fresh>, AllocError>
+    ensures { IfOk result (IsNewNode (⟦<RealHost<'a, HostRuntime> as Host>⟧.told)) }
+{
+    let host = RealHost::new(rt, alloc, path)?;
+    Ok(Node::new(alloc, SystemClock::new(rt), host, Fresh::new()))
+}
+
+/// Two controllers and two nodes.
+fn bench<'a>(
+    rt: &'a HostRuntime,
+    alloc: Global,
+) -> Result<Bench<SystemClock<&'a HostRuntime>, RealHost<'a, HostRuntime>, Fresh>, AllocError>
+    ensures { IfOk result (IsNewBench (⟦<RealHost<'a, HostRuntime> as Host>⟧.told)) }
+{
+    let path = path_of(rt, alloc)?;
+    let mut controllers = Vec::new(alloc);
+    controllers.push(controller(rt, alloc))?;
+    controllers.push(controller(rt, alloc))?;
+    let mut kubelets = Vec::new(alloc);
+    kubelets.push(node(rt, alloc, path.as_str())?)?;
+    kubelets.push(node(rt, alloc, path.as_str())?)?;
+    Ok(Bench {
+        controllers,
+        kubelets,
+        user: SystemClock::new(rt),
+    })
+}
+
 /// Carries out the words, and gives the status.
-fn run(rt: &HostRuntime) -> u8 {
+fn run<T: Wait>(rt: &HostRuntime, wait: &T) -> u8 {
     let alloc = rt.alloc();
     match words(rt, alloc) {
         Ok(words) => {
             let mut input = ReadSource::new(rt.reader());
             let mut sink = WriteSink::new(io::writer(rt));
-            plain(alloc, words.as_slice(), &mut input, &mut sink).status
+            match bench(rt, alloc) {
+                Ok(mut bench) => {
+                    tkn(
+                        wait,
+                        alloc,
+                        words.as_slice(),
+                        &mut input,
+                        &mut sink,
+                        &mut bench,
+                    )
+                    .status
+                }
+                Err(_) => 6,
+            }
         }
         Err(error) => status_of(error),
     }
 }
 
 fn main(rt: HostRuntime) -> ExitCode {
-    let status = run(&rt);
+    let status = run(&rt, &rt);
     if let Some(message) = message(status) {
         let _ = eprintln!(rt; "{message}");
     }

@@ -22,7 +22,7 @@ pub struct Ended {
 }
 
 /// An end without a journal.
-fn end_with(alloc: Global, status: u8) -> Ended
+pub(crate) fn end_with(alloc: Global, status: u8) -> Ended
     ensures status { result.status ≡ status }
     ensures journal { result.journal.history ≡ [] }
 {

@@ -1,0 +1,180 @@
+ghost use Rattle.std.specs.Prelude.{◌≡◌, ◌==◌, ◌<◌, ◌⊎◌, ◌↔◌, if◌then◌else◌, true, false, [], None, Some, IfErr, IfOk, OnOk};
+ghost use Rattle.std.specs.Option.{ForSome};
+ghost use Rattle.std.specs.Io.KnownBytes.{Appends};
+ghost use Rattle.tk_edge.specs.Causes.{raised};
+ghost use Rattle.tk_journal.specs.Legal.{IsLegal};
+ghost use Rattle.tk_report.specs.Objects.{HasMoments};
+ghost use Rattle.tk_run.specs.Begun.{IsNewBench};
+ghost use Rattle.tkn.specs.Command.{command_of as command_of_words};
+ghost use Rattle.tkn.specs.Plain.{is_answer, Prints, PrintsFront, PrintsReadFront};
+ghost use Rattle.tkn.specs.Run.{CountsRun, IsDueOf, IsRunAnswer, IsRunDue, IsUsage, LeftBy, PrintsFrontOf, PrintsOne, RunsSoFar, RunsSoFarOf};
+ghost use Rattle.tkn.specs.RunWords.{RunOptions, run_of};
+ghost use Rattle.tkn.specs.Written.{AppendsFront};
+
+use crate::answer::{Answer, refused, too_long_answer};
+use crate::due::{Due, reported};
+use crate::input::{Unread, read_all};
+use crate::output::write_all;
+use crate::plain::{Ended, end_with, plain};
+use crate::run_words::run_words;
+use std::alloc::{AllocError, Global};
+use std::sync::Wait;
+use tk_edge::{Clock, Gate, Host, Miss, Sink, Source};
+use tk_journal::Journal;
+use tk_rounds::Bench;
+use tk_run::{Ran, run};
+use tk_types::Text;
+
+/// What is due for a run that came to this.
+fn due_of(alloc: Global, json: bool, ran: &Ran) -> Result<Due, AllocError>
+    requires legal { OnOk ran.now.end (IsLegal ran.now.journal.history) }
+    requires moments { OnOk ran.now.end (HasMoments ran.now.journal.history) }
+    ensures { IfOk result (IsDueOf json ran.now.journal.history ran.now.end) }
+{
+    match &ran.end {
+        Ok(()) => reported(alloc, json, &ran.journal),
+        Err(error) => refused(alloc, error),
+    }
+}
+
+/// What is due is written, and the journal is answered.
+fn print<W: Sink>(sink: &mut W, due: Due, journal: Journal) -> Ended
+    requires answer { is_answer due.status ≡ true }
+    ensures journal { result.journal ≡ journal }
+    ensures known { (result.status ≡ due.status) ⊎ (result.status ≡ 5) ⊎ (result.status ≡ 6) }
+    ensures answer { is_answer result.status ≡ true → (result.status ≡ due.status) × Appends (W.written sink.old) (W.written sink.new) due.text }
+    ensures failed_front { result.status ≡ 5 → AppendsFront (W.written sink.old) (W.written sink.new) due.text }
+    ensures memory_front { result.status ≡ 6 → AppendsFront (W.written sink.old) (W.written sink.new) due.text }
+    ensures faults { W.faults sink.new ≡ (if result.status == 5 then raised (W.faults sink.old) else W.faults sink.old) }
+{
+    match write_all(sink, due.text.as_str().as_bytes()) {
+        Ok(()) => Ended {
+            status: due.status,
+            journal,
+        },
+        Err(Miss::Failed) => Ended { status: 5, journal },
+        Err(Miss::Memory) => Ended { status: 6, journal },
+    }
+}
+
+/// What is answered for the bytes of an input that is run on a bench; or else, where there is no memory, the journal so far.
+fn run_answer<T: Wait, K: Clock, H: Host, G: Gate>(
+    rt: &T,
+    alloc: Global,
+    json: bool,
+    root: &str,
+    bytes: &[u8],
+    bench: &mut Bench<K, H, G>,
+) -> Result<Answer, Journal>
+    requires bench { IsNewBench H.told bench.old }
+    ensures ok { IfOk result (IsRunAnswer G.answers K.readings K.last H.told H.killed (record { json = json; root = root.now }) bytes.now bench.old bench.new) }
+    ensures err { IfErr result (λ journal. RunsSoFar G.answers K.readings K.last H.told H.killed (record { json = json; root = root.now }) bytes.now bench.old bench.new journal.history) }
+    ensures answer { IfOk result (λ answer. is_answer answer.due.status ≡ true) }
+{
+    let ran = run(rt, alloc, bytes, root, bench);
+    let due = due_of(alloc, json, &ran);
+    let Ran { journal, .. } = ran;
+    match due {
+        Ok(due) => Ok(Answer { due, journal }),
+        Err(_) => Err(journal),
+    }
+}
+
+/// Why an input isn't answered: it can't be read, or there is no memory, with the journal so far.
+#[derive(Drop)]
+enum Unrun {
+    Failed,
+    Memory(Journal),
+}
+
+/// Reads an input to its end, and runs it on a bench.
+fn read_and_run<T: Wait, R: Source, K: Clock, H: Host, G: Gate>(
+    rt: &T,
+    alloc: Global,
+    json: bool,
+    root: &str,
+    input: &mut R,
+    bench: &mut Bench<K, H, G>,
+) -> Result<Answer, Unrun>
+    requires bench { IsNewBench H.told bench.old }
+    ensures due { IfOk result (IsRunDue G.answers K.readings K.last H.told H.killed (record { json = json; root = root.now }) (R.left input.old) (R.ended input.new) bench.old bench.new) }
+    ensures answer { IfOk result (λ answer. is_answer answer.due.status ≡ true) }
+    ensures err { IfErr result (LeftBy G.answers K.readings K.last H.told H.killed (record { json = json; root = root.now }) (R.left input.old) bench.old bench.new) }
+    ensures faults { CountsRun (R.faults input.old) (R.faults input.new) result }
+{
+    match read_all(alloc, input) {
+        Ok(bytes) => match run_answer(rt, alloc, json, root, bytes.as_slice(), bench) {
+            Ok(answer) => Ok(answer),
+            Err(journal) => Err(Unrun::Memory(journal)),
+        },
+        Err(Unread::TooLong) => match too_long_answer(alloc) {
+            Ok(answer) => Ok(answer),
+            Err(_) => Err(Unrun::Memory(Journal::empty(alloc))),
+        },
+        Err(Unread::Failed) => Err(Unrun::Failed),
+        Err(Unread::Memory) => Err(Unrun::Memory(Journal::empty(alloc))),
+    }
+}
+
+/// Runs an input on a bench, and writes what is due.
+fn run_input<T: Wait, R: Source, W: Sink, K: Clock, H: Host, G: Gate>(
+    rt: &T,
+    alloc: Global,
+    json: bool,
+    root: &str,
+    input: &mut R,
+    sink: &mut W,
+    bench: &mut Bench<K, H, G>,
+) -> Ended
+    requires bench { IsNewBench H.told bench.old }
+    ensures known { result.status < 8 }
+    ensures done { result.status ≡ 2 → ⊥ }
+    ensures answer { is_answer result.status ≡ true → PrintsOne (IsRunDue G.answers K.readings K.last H.told H.killed (record { json = json; root = root.now }) (R.left input.old) (R.ended input.new) bench.old bench.new) (W.written sink.old) (W.written sink.new) result.status result.journal.history }
+    ensures input_faults { R.faults input.new ≡ (if result.status == 4 then raised (R.faults input.old) else R.faults input.old) }
+    ensures input_failed { result.status ≡ 4 → (sink.new ≡ sink.old) × (bench.new ≡ bench.old) × (result.journal.history ≡ []) }
+    ensures sink_faults { W.faults sink.new ≡ (if result.status == 5 then raised (W.faults sink.old) else W.faults sink.old) }
+    ensures sink_failed_front { result.status ≡ 5 → PrintsFrontOf (IsRunDue G.answers K.readings K.last H.told H.killed (record { json = json; root = root.now }) (R.left input.old) (R.ended input.new) bench.old bench.new) (W.written sink.old) (W.written sink.new) result.journal.history }
+    ensures memory { result.status ≡ 6 → ((sink.new ≡ sink.old) × RunsSoFarOf G.answers K.readings K.last H.told H.killed (record { json = json; root = root.now }) (R.left input.old) bench.old bench.new result.journal.history) ⊎ PrintsFrontOf (IsRunDue G.answers K.readings K.last H.told H.killed (record { json = json; root = root.now }) (R.left input.old) (R.ended input.new) bench.old bench.new) (W.written sink.old) (W.written sink.new) result.journal.history }
+{
+    match read_and_run(rt, alloc, json, root, input, bench) {
+        Ok(Answer { due, journal }) => print(sink, due, journal),
+        Err(Unrun::Failed) => end_with(alloc, 4),
+        Err(Unrun::Memory(journal)) => Ended { status: 6, journal },
+    }
+}
+
+/// Carries out the words after the program's name: `run` runs the steps of an input on a bench and prints the report of its
+/// runs, as text or with `--json` as JSON, with the folders of its pods and workspaces below `--root`; every other command
+/// is `plain`'s, and leaves the bench as it is. The statuses of `run` are those of `simulate`; where memory runs out, all
+/// that still runs is killed, and the journal so far is answered.
+pub fn tkn<T: Wait, R: Source, W: Sink, K: Clock, H: Host, G: Gate>(
+    rt: &T,
+    alloc: Global,
+    words: &[Text],
+    input: &mut R,
+    sink: &mut W,
+    bench: &mut Bench<K, H, G>,
+) -> Ended
+    requires bench { IsNewBench H.told bench.old }
+    ensures known { result.status < 8 }
+    ensures words { (result.status ≡ 2) ↔ IsUsage (run_of words.now) (command_of_words words.now) }
+    ensures words_leave { result.status ≡ 2 → (input.new ≡ input.old) × (sink.new ≡ sink.old) × (bench.new ≡ bench.old) }
+    ensures input_faults { R.faults input.new ≡ (if result.status == 4 then raised (R.faults input.old) else R.faults input.old) }
+    ensures input_failed { result.status ≡ 4 → (sink.new ≡ sink.old) × (bench.new ≡ bench.old) × (result.journal.history ≡ []) }
+    ensures sink_faults { W.faults sink.new ≡ (if result.status == 5 then raised (W.faults sink.old) else W.faults sink.old) }
+    ensures run_answer { (options : RunOptions) → run_of words.now ≡ Some (Some options) → is_answer result.status ≡ true → PrintsOne (IsRunDue G.answers K.readings K.last H.told H.killed options (R.left input.old) (R.ended input.new) bench.old bench.new) (W.written sink.old) (W.written sink.new) result.status result.journal.history }
+    ensures run_sink_failed { (options : RunOptions) → run_of words.now ≡ Some (Some options) → result.status ≡ 5 → PrintsFrontOf (IsRunDue G.answers K.readings K.last H.told H.killed options (R.left input.old) (R.ended input.new) bench.old bench.new) (W.written sink.old) (W.written sink.new) result.journal.history }
+    ensures bench_alone { run_of words.now ≡ None → bench.new ≡ bench.old }
+    ensures nothing_ran { run_of words.now ≡ None → (result.status ≡ 2) ⊎ (result.status ≡ 4) ⊎ (result.status ≡ 6) → result.journal.history ≡ [] }
+    ensures answer { run_of words.now ≡ None → is_answer result.status ≡ true → ForSome (command_of_words words.now) (λ command. Prints command (R.left input.old) (R.ended input.new) (W.written sink.old) (W.written sink.new) result.status result.journal.history) }
+    ensures sink_failed_front { run_of words.now ≡ None → result.status ≡ 5 → ForSome (command_of_words words.now) (λ command. PrintsReadFront command (R.left input.old) (R.ended input.new) (W.written sink.old) (W.written sink.new) result.journal.history) }
+    ensures memory_front { run_of words.now ≡ None → result.status ≡ 6 → ForSome (command_of_words words.now) (λ command. PrintsFront command (R.left input.old) (W.written sink.old) (W.written sink.new)) }
+{
+    match words {
+        [word, rest @ ..] if word.as_str() == "run" => match run_words(rest) {
+            Some((json, root)) => run_input(rt, alloc, json, root, input, sink, bench),
+            None => end_with(alloc, 2),
+        },
+        _ => plain(alloc, words, input, sink),
+    }
+}
