@@ -1,4 +1,4 @@
-ghost use Rattle.std.specs.Prelude.{◌≡◌, [], IfOk, OnErr};
+ghost use Rattle.std.specs.Prelude.{◌≡◌, ◌≤◌, [], IfOk, OnErr};
 ghost use Rattle.tk_cache.specs.Fronts.{Shows};
 ghost use Rattle.tk_cache.specs.Views.{seen};
 ghost use Rattle.tk_held.specs.Pods.{KeepsAll};
@@ -72,6 +72,7 @@ impl Kubelet {
         ensures settled { AreOwnSettled self.old (H.killed host.old) (H.killed host.new) (H.told host.new) }
         ensures still { StayKilled (H.killed host.old) (H.killed host.new) }
         ensures only { KillsHeld self.old.held (H.killed host.old) (H.killed host.new) }
+        ensures later { H.faults host.old ≤ H.faults host.new }
     {
         kill_pods(host, self.held.as_slice());
     }

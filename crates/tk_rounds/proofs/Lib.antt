@@ -3,3 +3,8 @@ pub mod Growing
 pub mod Parts
 pub mod Standing
 pub mod Took
+pub mod Counting
+pub mod Ended
+pub mod Recorded
+pub mod Turns
+pub mod NodeTurn

@@ -16,10 +16,8 @@ use Rattle.tk_store.specs.Writes.{Stored}
 use Rattle.tk_cache.specs.Fronts.{Shows}
 use Rattle.tk_cache.specs.Views.{Kept, seen}
 use Rattle.tk_cache.proofs.Showing.{shows_grown, shows_none}
-use Rattle.tk_kubelet.specs.Holding.{IsSameKubelet}
 use Rattle.tk_rounds.specs.declared.bench.Controller.{Controller}
-use Rattle.tk_rounds.specs.declared.bench.Node.{Node}
-use Rattle.tk_rounds.specs.Bench.{ControllerFollows, NodeFollows}
+use Rattle.tk_rounds.specs.Bench.{ControllerFollows}
 use Rattle.tk_rounds.specs.Covered.{IsCovered}
 use Rattle.tk_rounds.specs.Follows.{Follows, FollowsSince, IsToldSince, IsToldWhile, Told, told_by}
 use Rattle.tk_rounds.specs.Growth.{AreDistinct, AreTwoKinds, GrowsBy, IsOwn}
@@ -66,14 +64,14 @@ gave_on : (since : Option (List GateTurn)) (answers : List GateTurn) (old new : 
 gave_on None answers old new given is adds = subst (λ (o : Option (List GateTurn)). Adds given o new) is adds
 gave_on (Some before) answers old new given is adds = subst (λ (o : Option (List GateTurn)). Adds given o new) is adds
 
-took_on : (since : Option (List ℕ)) (readings : List ℕ) (old new : Option (List ℕ)) (reading : ℕ) → IsToldWhile since readings old → AddsWhileTold reading old new → IsToldWhile since (reading ∷ readings) new
+pub took_on : (since : Option (List ℕ)) (readings : List ℕ) (old new : Option (List ℕ)) (reading : ℕ) → IsToldWhile since readings old → AddsWhileTold reading old new → IsToldWhile since (reading ∷ readings) new
 took_on since readings old None reading is adds = tt
 took_on None readings None (Some now) reading is adds = absurd adds
 took_on None readings (Some was) (Some now) reading is adds = absurd is
 took_on (Some before) readings None (Some now) reading is adds = absurd adds
 took_on (Some before) readings (Some was) (Some now) reading is adds = adds ∙ ap (λ (r : List ℕ). reading ∷ r) is
 
-between_later : (since : ℕ) (readings : List ℕ) (old new : ℕ) → AreBetween since readings old → old ≤ new → AreBetween since readings new
+pub between_later : (since : ℕ) (readings : List ℕ) (old new : ℕ) → AreBetween since readings old → old ≤ new → AreBetween since readings new
 between_later since [] old new is le = omega (arith, is, le)
 between_later since (reading ∷ older) old new is le = (let first = is.0 in omega (arith, first, le), is.1)
 
@@ -236,19 +234,3 @@ module _ {K G : Type 0} (answers : G → Option (List GateTurn)) (readings : K �
       subst (λ (n : ℕ). FollowsSince (of_controller n) (told_by answers readings last start.gate start.clock) (told_by answers readings last new.gate new.clock) new.cache.fronts after.history) (sym named)
       (turn_on (of_controller old.number) (told_by answers readings last start.gate start.clock) (answers old.gate) (answers new.gate) given (place old.clock old.cache before) (place new.clock new.cache after) shows.within
       (subst (λ (g : G). AddsAnswer given (answers old.gate) (answers g)) (sym gate) adds) done is)
-
-module _ {K H G : Type 0} (answers : G → Option (List GateTurn)) (readings : K → Option (List ℕ)) (last : K → ℕ) where
-  pub node_follows : (start old mid new : Node K H G) (given : GateTurn) (before after : Stored) → mid ≡ record old { gate = mid.gate } → AddsAnswer given (answers old.gate) (answers mid.gate) → new.gate ≡ mid.gate → IsSameKubelet mid.kubelet new.kubelet → Shows (seen old.cache) before.history → IsTurn (of_kubelet mid.kubelet.number) given (place_of readings last mid.clock mid.cache before) (place_of readings last new.clock new.cache after) → AddsOfLife mid.kubelet.number mid.kubelet.life before.history after.history → NodeFollows answers readings last start old before.history → NodeFollows answers readings last start new after.history
-  node_follows start old mid new given before after same adds gate kubelet shows turn lives is =
-      let done = subst (λ (n : Node K H G). IsTurn (of_kubelet n.kubelet.number) given (place_of readings last n.clock n.cache before) (place_of readings last new.clock new.cache after)) same turn in
-      let named : new.kubelet.number ≡ old.kubelet.number = kubelet.number ∙ ap (λ (n : Node K H G). n.kubelet.number) same in
-      let lived : new.kubelet.life ≡ old.kubelet.life = kubelet.life ∙ ap (λ (n : Node K H G). n.kubelet.life) same in
-      let rooted : new.kubelet.root ≡ old.kubelet.root = kubelet.root ∙ ap (λ (n : Node K H G). n.kubelet.root) same in
-      let adding = subst (λ (n : Node K H G). AddsOfLife n.kubelet.number n.kubelet.life before.history after.history) same lives in
-      record {
-        since = subst (λ (n : ℕ). FollowsSince (of_kubelet n) (told_by answers readings last start.gate start.clock) (told_by answers readings last new.gate new.clock) new.cache.fronts after.history) (sym named)
-            (turn_on (of_kubelet old.kubelet.number) (told_by answers readings last start.gate start.clock) (answers old.gate) (answers new.gate) given (place_of readings last old.clock old.cache before) (place_of readings last new.clock new.cache after) shows.within
-            (subst (λ (g : G). AddsAnswer given (answers old.gate) (answers g)) (sym gate) adds) done is.since);
-        same = record { number = named ∙ is.same.number; life = lived ∙ is.same.life; root = rooted ∙ is.same.root };
-        life = subst (λ (n : ℕ). AreOfLife n new.kubelet.life after.history) (sym named) (subst (λ (l : ℕ). AreOfLife old.kubelet.number l after.history) (sym lived) (life_on old.kubelet.number old.kubelet.life before.history after.history is.life adding));
-      }

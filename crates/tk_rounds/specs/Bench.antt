@@ -10,6 +10,7 @@ use Rattle.tk_rounds.specs.declared.bench.Controller.{Controller}
 use Rattle.tk_rounds.specs.declared.bench.Node.{Node}
 use Rattle.tk_rounds.specs.Follows.{FollowsSince, told_by}
 use Rattle.tk_rounds.specs.Members.{of_controller, of_kubelet, AreOfLife}
+use Rattle.tk_rounds.specs.Outcomes.{AreForClaimed, HasOutcomes}
 
 -- each member of a kind has its place as its number, and is ready
 abbrev pub AllReady : {M : Type 0} → (M → ℕ) → (List Entry → M → Type 0) → List Entry → List M → Type 0
@@ -42,8 +43,12 @@ module _ {K H G : Type 0} where
     pub shows : Shows (seen n.cache) history
     pub met : IsMet n.kubelet history (killed n.host) (told n.host)
 
-  -- its entries are covered and timed, and all of the life in which it began
-  pub record NodeFollows (answers : G → Option (List GateTurn)) (readings : K → Option (List ℕ)) (last : K → ℕ) (start n : Node K H G) (history : List Entry) : Type 0 where
+  pub record NodeFollows (answers : G → Option (List GateTurn)) (readings : K → Option (List ℕ)) (last : K → ℕ) (told : H → List Event) (faults : H → ℕ) (start n : Node K H G) (history : List Entry) : Type 0 where
+    -- its entries are covered and timed, and all of the life in which it began
     pub since : FollowsSince (of_kubelet n.kubelet.number) (told_by answers readings last start.gate start.clock) (told_by answers readings last n.gate n.clock) n.cache.fronts history
     pub same : IsSameKubelet start.kubelet n.kubelet
     pub life : AreOfLife n.kubelet.number n.kubelet.life history
+    -- its pods ended by their exits and results, but for at most as many as its host failed
+    pub outcomes : HasOutcomes n.kubelet.number n.kubelet.life n.kubelet.root n.kubelet.held (faults start.host) (faults n.host) (told n.host) history
+    -- its host did only what may be done for pods that the kubelet claimed
+    pub deeds : AreForClaimed n.kubelet.number n.kubelet.root history (told n.host)

@@ -1,4 +1,4 @@
-ghost use Rattle.std.specs.Prelude.{◌≡◌, []};
+ghost use Rattle.std.specs.Prelude.{◌≡◌, ◌≤◌, []};
 ghost use Rattle.tk_cache.specs.Fronts.{Shows};
 ghost use Rattle.tk_cache.specs.Views.{seen};
 ghost use Rattle.tk_edge.specs.Gates.{AddsAnswer};
@@ -119,6 +119,7 @@ impl<K: Clock, H: Host, G: Gate> Node<K, H, G> {
         ensures settled { AreOwnSettled self.old.kubelet (H.killed self.old.host) (H.killed self.new.host) (H.told self.new.host) }
         ensures still { StayKilled (H.killed self.old.host) (H.killed self.new.host) }
         ensures only { KillsHeld self.old.kubelet.held (H.killed self.old.host) (H.killed self.new.host) }
+        ensures later { H.faults self.old.host ≤ H.faults self.new.host }
     {
         self.kubelet.kill_all(&mut self.host);
     }

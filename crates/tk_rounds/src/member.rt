@@ -34,7 +34,7 @@ pub trait Member {
     fn laws()
         ensures distinct { AreDistinct mine }
         ensures keep { (m : Self) (history : List AnEntry) (e : AnEntry) → IsLegal (e ∷ history) → mine (number m) e ≡ false → ready history m → ready (e ∷ history) m }
-        ensures follow { (start m : Self) (history : List AnEntry) (e : AnEntry) → mine (number m) e ≡ false → ready history m → follows start m history → follows start m (e ∷ history) };
+        ensures follow { (start m : Self) (history : List AnEntry) (e : AnEntry) → IsLegal (e ∷ history) → mine (number m) e ≡ false → ready history m → follows start m history → follows start m (e ∷ history) };
 }
 
 /// How many turns a member takes in a round at most.

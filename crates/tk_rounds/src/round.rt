@@ -60,7 +60,7 @@ pub fn serial_round<K: Clock, H: Host, G: Gate>(
     ensures wrote { IfOk result (λ end. length store.new.history ≡ length store.old.history + end.wrote) }
     ensures grows { GrowsBy (λ e. OfOne of_controller (length bench.old.controllers.items) e ⊎ OfOne of_kubelet (length bench.old.kubelets.items) e) store.old.history store.new.history }
     ensures controllers_follow { AllFollow (ControllerFollows G.answers K.readings K.last) bench.old.controllers.items bench.new.controllers.items store.old.history store.new.history }
-    ensures nodes_follow { AllFollow (NodeFollows G.answers K.readings K.last) bench.old.kubelets.items bench.new.kubelets.items store.old.history store.new.history }
+    ensures nodes_follow { AllFollow (NodeFollows G.answers K.readings K.last H.told H.faults) bench.old.kubelets.items bench.new.kubelets.items store.old.history store.new.history }
 {
     let before = store.journal().len();
     both_parts(

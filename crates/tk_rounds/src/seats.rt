@@ -8,6 +8,7 @@ use crate::bench::{Controller, Node};
 use crate::member::Member;
 use std::alloc::{AllocError, Global};
 use tk_edge::{Clock, Gate, GateTurn, Host};
+use tk_held::laws::legal_is_planned;
 use tk_store::Store;
 
 /// Whether a member that took such a turn may have more to do.
@@ -45,9 +46,11 @@ impl<K: Clock, H: Host, G: Gate> Member for Node<K, H, G> {
 
     ghost ready = { IsReadyNode H.told H.killed };
 
-    ghost follows = { NodeFollows G.answers K.readings K.last };
+    ghost follows = { NodeFollows G.answers K.readings K.last H.told H.faults };
 
     fn take_turn(&mut self, alloc: Global, store: &mut Store) -> Result<bool, AllocError> {
+        legal_is_planned();
+        store.legal();
         let given = self.next();
         let wrote = self.turn(alloc, given, store);
         store.legal();

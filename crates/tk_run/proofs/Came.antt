@@ -1,7 +1,7 @@
 -- What rounds of a bench that began come to.
-use Rattle.std.proofs.Common.{◌≡◌, ◌≢◌, ◌≤◌, ◌<◌, ℕ, List, [], ◌∷◌, ◌++◌, length, Option, Some, None, true, false, refl, sym, ◌∙◌, ap, subst, arith, inl, inr, nat_eq, get_or}
+use Rattle.std.proofs.Common.{◌≡◌, ◌≢◌, ◌≤◌, ◌<◌, ℕ, List, [], ◌∷◌, ◌++◌, length, Option, Some, true, false, sym, ◌∙◌, ap, subst, arith, inl, inr, nat_eq, get_or}
 use Rattle.std.specs.Prelude.{All, Bool, slice_get}
-use Rattle.std.proofs.lemmas.Bool.{eqb-true, cases_Bool}
+use Rattle.std.proofs.lemmas.Bool.{cases_Bool}
 use Rattle.std.proofs.lemmas.List.Elements.{All-nil, All-cons, All-head, All-tail, All-append}
 use Rattle.std.proofs.lemmas.Option.{same_Some, slice_get-get_or}
 use Rattle.tk_edge.specs.declared.event.Event.{Event}
@@ -12,19 +12,13 @@ use Rattle.tk_edge.specs.History.{order_of}
 use Rattle.tk_edge.specs.InOrder.{AreStartsDue, Claimed, IsInOrder, Pods}
 use Rattle.tk_edge.specs.Readings.{last_moment}
 use Rattle.tk_journal.specs.declared.admitted.Admitted.{Admitted}
-use Rattle.tk_journal.specs.declared.act.Act.{Act}
-use Rattle.tk_journal.specs.declared.act.Act.TheVariants as acts
-use Rattle.tk_journal.specs.declared.entry.Actor.{Actor}
-use Rattle.tk_journal.specs.declared.entry.Actor.TheVariants as actors
 use Rattle.tk_journal.specs.declared.entry.Entry.{Entry}
 use Rattle.tk_journal.specs.declared.object.Claim.{Claim}
 use Rattle.tk_journal.specs.declared.object.PodState.{PodState}
-use Rattle.tk_journal.specs.History.{View, pod_of, view_at}
+use Rattle.tk_journal.specs.History.{pod_of, view_at}
+use Rattle.tk_journal.specs.Laws.{LegalIsRight}
 use Rattle.tk_journal.specs.Legal.{IsLegal, is_admit}
-use Rattle.tk_journal.specs.PodRows.{claims_for}
-use Rattle.tk_journal.specs.Rows.{IsJustified}
 use Rattle.tk_journal.proofs.Attempts.{get_below}
-use Rattle.tk_journal.proofs.Statements.{legal_is_right}
 use Rattle.tk_held.specs.Conditions.{claimed_pod, pods_of}
 use Rattle.tk_held.specs.Laws.{AreAdmits}
 use Rattle.tk_manifest.specs.declared.kinds.KindSet.TheVariants.{Four}
@@ -38,21 +32,18 @@ use Rattle.tk_rounds.specs.declared.bench.Node.{Node}
 use Rattle.tk_rounds.specs.Bench.{ControllerFollows, IsReadyController, IsReadyNode, NodeFollows}
 use Rattle.tk_rounds.specs.Follows.{FollowsSince, told_by}
 use Rattle.tk_rounds.specs.Growth.{GrowsBy}
-use Rattle.tk_rounds.specs.Members.{AreOfLife, by_controller, by_kubelet, of_controller, of_kubelet}
+use Rattle.tk_rounds.specs.Outcomes.{AreForClaimed, HasOutcomes}
+use Rattle.tk_rounds.specs.Members.{AreOfLife, of_controller, of_kubelet}
+use Rattle.tk_run.specs.declared.asks.AskWord.{AskWord}
+use Rattle.tk_run.specs.Asks.{AreOfWords, UserFollows, clock_told}
 use Rattle.tk_run.specs.Begun.{AreBegun, IsNewBench, controller_begun, node_begun}
 use Rattle.tk_run.specs.Going.{GoesOn, IsReady, OfMembers}
-use Rattle.tk_run.specs.Run.{IsRun, StartsApart, entries_of, given_by}
+use Rattle.tk_run.specs.Run.{AreAllOfLife, AreNodesSettled, IsRun, StartsApart, entries_of, given_by}
+use Rattle.tk_run.proofs.Lives.{claim_number, claimed_for}
+use Rattle.tk_run.proofs.Members.{admits_none, not_admission}
 use Rattle.tk_run.proofs.Starting.{all_of_admission, controller_ready, controller_starts, node_ready, node_starts}
 
 -- members admit nothing
-
-not_admission : (controllers nodes : ℕ) (e : Entry) → OfMembers controllers nodes e → e.actor ≢ actors.Admission
-not_admission controllers nodes e (inl own) is = let both = sym own.2.0 ∙ ap (by_controller own.0) is in cc (both)
-not_admission controllers nodes e (inr own) is = let both = sym own.2.0 ∙ ap (by_kubelet own.0) is in cc (both)
-
-admits_none : (view : View) (actor : Actor) (moment : ℕ) (act : Act) → actor ≢ actors.Admission → IsJustified view actor moment act → is_admit act ≡ false
-admits_none view actor moment (acts.Admit name spec pending asked root) other justified = absurd (other justified)
-admits_none view actor moment _ other justified = refl
 
 abbrev AdmitsNothing : Entry → Type 0
 AdmitsNothing e = is_admit e.act ≡ false
@@ -70,7 +61,8 @@ module _ (controllers nodes : ℕ) where
 
   on_clock : (e : Entry) → OfMembers controllers nodes e → IsOnClock e
   on_clock e (inl own) = own.2.1
-  on_clock e (inr own) = own.2.1
+  on_clock e (inr (inl own)) = own.2.1
+  on_clock e (inr (inr user)) = user.1
 
   all_on_clock : (new : List Entry) → All (OfMembers controllers nodes) new → All IsOnClock new
   all_on_clock [] such = All-nil IsOnClock
@@ -84,11 +76,11 @@ module _ (controllers nodes : ℕ) where
 
 -- what is admitted of an input
 
-pub given_admits : (root bytes : List ℕ) → AreAdmits (entries_of (given_by root bytes))
-given_admits root bytes = admits_onto root (taken (objects_of Four bytes)) [] (All-nil (λ (e : Entry). is_admit e.act ≡ true))
+pub given_admits : (root : List ℕ) (words : List AskWord) (bytes : List ℕ) → AreAdmits (entries_of (given_by root words bytes))
+given_admits root words bytes = admits_onto root (taken (objects_of Four bytes)) [] (All-nil (λ (e : Entry). is_admit e.act ≡ true))
 
-pub given_timely : (root bytes : List ℕ) → AreOnClock (entries_of (given_by root bytes))
-given_timely root bytes = timely_onto root (taken (objects_of Four bytes)) [] (All-nil IsOnClock)
+pub given_timely : (root : List ℕ) (words : List AskWord) (bytes : List ℕ) → AreOnClock (entries_of (given_by root words bytes))
+given_timely root words bytes = timely_onto root (taken (objects_of Four bytes)) [] (All-nil IsOnClock)
 
 -- no two hosts start steps of one pod
 
@@ -108,17 +100,6 @@ started_claimed pods (events.Put path bytes answered ∷ older) due child order 
 started_claimed pods (events.Cleared folder answered ∷ older) due child order is = started_claimed pods older due child order is
 started_claimed pods (events.Fetched path bytes ∷ older) due child order is = started_claimed pods older due child order is
 
-claim_number : (number : ℕ) (claim : Option Claim) → claims_for number claim ≡ true → (c : Claim) × (claim ≡ Some c) × (c.number ≡ number)
-claim_number number None is = cc
-claim_number number (Some c) is = (c, refl, eqb-true c.number number is)
-
-claimed_for : (number : ℕ) (pod : Option PodState) (claimed : Claimed) → claimed_pod number pod ≡ Some claimed → (state : PodState) × (pod ≡ Some state) × (claims_for number state.claim ≡ true)
-claimed_for number None claimed is = cc
-claimed_for number (Some state) claimed is = elim (cases_Bool (claims_for number state.claim)) [
-  | inl hit ↦ (state, refl, hit)
-  | inr miss ↦ (let none = rw miss at is in cc (none))
-]
-
 one_number : (i j : ℕ) (pod : Option PodState) (a b : Claimed) → claimed_pod i pod ≡ Some a → claimed_pod j pod ≡ Some b → i ≡ j
 one_number i j pod a b at_i at_j =
     let one = claimed_for i pod a at_i in
@@ -137,7 +118,7 @@ apart history i j one other differ due_one due_other c d x y at_c at_d same =
 
 -- a bench that began, and what it comes to
 
-module _ {K H G : Type 0} (answers : G → Option (List GateTurn)) (readings : K → Option (List ℕ)) (last : K → ℕ) (told : H → List Event) (killed : H → ℕ → Bool) (root : List ℕ) (old begun : Bench K H G)
+module _ {K H G : Type 0} (answers : G → Option (List GateTurn)) (readings : K → Option (List ℕ)) (last : K → ℕ) (told : H → List Event) (killed : H → ℕ → Bool) (faults : H → ℕ) (root : List ℕ) (old begun : Bench K H G)
     (new_bench : IsNewBench told old)
     (counts : (length begun.controllers.items ≡ length old.controllers.items) × (length begun.kubelets.items ≡ length old.kubelets.items))
     (controllers : AreBegun controller_begun (length old.controllers.items) old.controllers.items begun.controllers.items)
@@ -186,7 +167,7 @@ module _ {K H G : Type 0} (answers : G → Option (List GateTurn)) (readings : K
         (ap (λ (m : Node K H G). m.kubelet.number) was.is, subst (IsReadyNode told killed first) (sym was.is) (node_ready answers readings last told killed root i was.was first (new_bench.nodes i was.was was.at) admits));
   }
 
-  module _ (now : Bench K H G) (history : List Entry) (legal : IsLegal history) (ready : IsReady told killed history now) (goes : GoesOn answers readings last begun now first history) where
+  module _ (now : Bench K H G) (history : List Entry) (legal : IsLegal history) (ready : IsReady told killed history now) (goes : GoesOn answers readings last told faults begun now first history) where
     -- what a member that stands at a place was
     record CameController (i : ℕ) (c : Controller K G) : Type 0 where
       was : Controller K G
@@ -212,7 +193,7 @@ module _ {K H G : Type 0} (answers : G → Option (List GateTurn)) (readings : K
     record CameNode (i : ℕ) (n : Node K H G) : Type 0 where
       was : Node K H G
       at : slice_get old.kubelets.items i ≡ Some was
-      follows : NodeFollows answers readings last (node_begun root i was) n history
+      follows : NodeFollows answers readings last told faults (node_begun root i was) n history
 
     came_node : (i : ℕ) (n : Node K H G) → slice_get now.kubelets.items i ≡ Some n → CameNode i n
     came_node i n at =
@@ -222,22 +203,25 @@ module _ {K H G : Type 0} (answers : G → Option (List GateTurn)) (readings : K
         let there = slice_get-get_or begun.kubelets.items i n below in
         let m = get_or begun.kubelets.items i n in
         let was = was_node i m there in
-        let start = node_starts answers readings last told killed root i was.was first (new_bench.nodes i was.was was.at) (all_of_admission first legal_first admits) in
+        let start = node_starts answers readings last told killed faults root i was.was first (new_bench.nodes i was.was was.at) admits (all_of_admission first legal_first admits) in
         record {
           was = was.was;
           at = was.at;
-          follows = goes.nodes i (node_begun root i was.was) m n there at (subst (λ (x : Node K H G). NodeFollows answers readings last (node_begun root i was.was) x first) (sym was.is) start);
+          follows = goes.nodes i (node_begun root i was.was) m n there at (subst (λ (x : Node K H G). NodeFollows answers readings last told faults (node_begun root i was.was) x first) (sym was.is) start);
         }
+
+    pub all_of_life : AreAllOfLife history now.kubelets.items
+    all_of_life i n at = (came_node i n at).follows.life
 
     own_starts : (i : ℕ) (n : Node K H G) → slice_get now.kubelets.items i ≡ Some n → IsInOrder (killed n.host) (pods_of i history) (told n.host)
     own_starts i n at =
         let is = ready.nodes i n at in
         subst (λ (number : ℕ). IsInOrder (killed n.host) (pods_of number history) (told n.host)) is.0 is.1.met.kept.in_order
 
-    pub is_run : (given : Admitted) → entries_of given ≡ first → AreOnClock first → IsRun answers readings last told killed given old now history
-    is_run given same clock = record {
+    pub is_run : LegalIsRight → (words : List AskWord) (given : Admitted) → entries_of given ≡ first → AreOnClock first → AreOfWords (last old.user) words history → UserFollows (clock_told readings last old.user) (clock_told readings last now.user) history → AreNodesSettled told killed now → IsRun answers readings last told killed faults root words given old now history
+    is_run right words given same clock asks user settled = record {
       legal = legal;
-      right = legal_is_right history legal;
+      right = right history legal;
       admits = subst (λ (h : List Entry). AdmitsNoMore h history) (sym same) (admits_no_more (length begun.controllers.items) (length begun.kubelets.items) first history legal goes.grows);
       members = subst (λ (h : List Entry). GrowsBy (OfMembers (length old.controllers.items) (length old.kubelets.items)) h history) (sym same)
           (subst (λ (n : ℕ). GrowsBy (OfMembers n (length old.kubelets.items)) first history) counts.0 (subst (λ (n : ℕ). GrowsBy (OfMembers (length begun.controllers.items) n) first history) counts.1 goes.grows));
@@ -253,5 +237,18 @@ module _ {K H G : Type 0} (answers : G → Option (List GateTurn)) (readings : K
           subst (λ (x : Node K H G). FollowsSince (of_kubelet i) (told_by answers readings last x.gate x.clock) (told_by answers readings last b.gate b.clock) b.cache.fronts history) (same_Some came.was a (sym came.at ∙ at_a)) follows;
       starts = own_starts;
       once = λ i j m n differ at_m at_n. apart history i j (told m.host) (told n.host) differ (own_starts i m at_m).due (own_starts j n at_n).due;
+      outcomes = λ i a b at_a at_b.
+          let came = came_node i b at_b in
+          let follows = subst (λ (r : List ℕ). HasOutcomes b.kubelet.number b.kubelet.life r b.kubelet.held (faults came.was.host) (faults b.host) (told b.host) history) came.follows.same.root came.follows.outcomes in
+          let lived = subst (λ (l : ℕ). HasOutcomes b.kubelet.number l root b.kubelet.held (faults came.was.host) (faults b.host) (told b.host) history) came.follows.same.life follows in
+          let placed = subst (λ (n : ℕ). HasOutcomes n 1 root b.kubelet.held (faults came.was.host) (faults b.host) (told b.host) history) (ready.nodes i b at_b).0 lived in
+          subst (λ (x : Node K H G). HasOutcomes i 1 root b.kubelet.held (faults x.host) (faults b.host) (told b.host) history) (same_Some came.was a (sym came.at ∙ at_a)) placed;
+      deeds = λ i n at.
+          let came = came_node i n at in
+          let follows = subst (λ (r : List ℕ). AreForClaimed n.kubelet.number r history (told n.host)) came.follows.same.root came.follows.deeds in
+          subst (λ (m : ℕ). AreForClaimed m root history (told n.host)) (ready.nodes i n at).0 follows;
+      asks = asks;
+      user = user;
+      settled = settled;
       timely = timely (length begun.controllers.items) (length begun.kubelets.items) first history goes.grows clock;
     }

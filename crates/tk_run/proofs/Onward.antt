@@ -6,6 +6,7 @@ use Rattle.std.proofs.lemmas.Option.{same_Some, slice_get-get_or}
 use Rattle.tk_edge.specs.declared.event.Event.{Event}
 use Rattle.tk_edge.specs.declared.gate.GateTurn.{GateTurn}
 use Rattle.tk_journal.specs.declared.entry.Entry.{Entry}
+use Rattle.tk_journal.specs.Legal.{IsLegal}
 use Rattle.tk_journal.proofs.Attempts.{get_below}
 use Rattle.tk_rounds.specs.declared.bench.Bench.{Bench}
 use Rattle.tk_rounds.specs.declared.bench.Controller.{Controller}
@@ -13,8 +14,10 @@ use Rattle.tk_rounds.specs.Bench.{AllFollow, AllReady, ControllerFollows, IsRead
 use Rattle.tk_rounds.specs.Growth.{GrowsBy}
 use Rattle.tk_rounds.proofs.Growing.{grows_none, grows_on}
 use Rattle.tk_rounds.proofs.Parts.{set_cases}
+use Rattle.tk_run.specs.Asks.{UserFollows, clock_told}
 use Rattle.tk_run.specs.Begun.{AreBegun}
 use Rattle.tk_run.specs.Going.{GoesOn, IsReady, OfMembers}
+use Rattle.tk_run.proofs.Members.{OfTurns, members_grow, user_turns}
 
 module _ {M : Type 0} (follows : M → M → List Entry → Type 0) where
   follow_none : (members : List M) (history : List Entry) → AllFollow follows members members history history
@@ -29,17 +32,18 @@ get_set_other (x ∷ xs) (suc i) (suc j) y differ = get_set_other xs i j y (λ s
 
 -- nothing happened yet, and rounds behind rounds
 
-module _ {K H G : Type 0} (answers : G → Option (List GateTurn)) (readings : K → Option (List ℕ)) (last : K → ℕ) where
-  pub goes_none : (bench : Bench K H G) (history : List Entry) → GoesOn answers readings last bench bench history history
+module _ {K H G : Type 0} (answers : G → Option (List GateTurn)) (readings : K → Option (List ℕ)) (last : K → ℕ) (told : H → List Event) (faults : H → ℕ) where
+  pub goes_none : (bench : Bench K H G) (history : List Entry) → GoesOn answers readings last told faults bench bench history history
   goes_none bench history = record {
     counts = (refl, refl);
     grows = grows_none (OfMembers (length bench.controllers.items) (length bench.kubelets.items)) history;
     controllers = λ i start a b at_a at_b is. follow_none (ControllerFollows answers readings last) bench.controllers.items history i start a b at_a at_b is;
-    nodes = λ i start a b at_a at_b is. follow_none (NodeFollows answers readings last) bench.kubelets.items history i start a b at_a at_b is;
+    nodes = λ i start a b at_a at_b is. follow_none (NodeFollows answers readings last told faults) bench.kubelets.items history i start a b at_a at_b is;
+    user = λ since is. is;
   }
 
   -- what rounds left, and one more
-  pub goes_on : (old between new : Bench K H G) (first history after : List Entry) → GoesOn answers readings last old between first history → GoesOn answers readings last between new history after → GoesOn answers readings last old new first after
+  pub goes_on : (old between new : Bench K H G) (first history after : List Entry) → GoesOn answers readings last told faults old between first history → GoesOn answers readings last told faults between new history after → GoesOn answers readings last told faults old new first after
   goes_on old between new first history after one two = record {
     counts = (two.counts.0 ∙ one.counts.0, two.counts.1 ∙ one.counts.1);
     grows = grows_on (OfMembers (length old.controllers.items) (length old.kubelets.items)) first history after one.grows
@@ -52,24 +56,54 @@ module _ {K H G : Type 0} (answers : G → Option (List GateTurn)) (readings : K
         let below : i < length between.kubelets.items = (let inside = get_below new.kubelets.items i b at_b in let same = two.counts.1 in omega (arith, inside, same)) in
         let there = slice_get-get_or between.kubelets.items i b below in
         two.nodes i start (get_or between.kubelets.items i b) b there at_b (one.nodes i start a (get_or between.kubelets.items i b) at_a there is);
+    user = λ since is. two.user since (one.user since is);
+  }
+
+  -- a round
+  pub round_goes : (old new : Bench K H G) (history after : List Entry) → IsLegal after
+      → (length new.controllers.items ≡ length old.controllers.items) × (length new.kubelets.items ≡ length old.kubelets.items) → GrowsBy (OfTurns (length old.controllers.items) (length old.kubelets.items)) history after
+      → AllFollow (ControllerFollows answers readings last) old.controllers.items new.controllers.items history after → AllFollow (NodeFollows answers readings last told faults) old.kubelets.items new.kubelets.items history after
+      → new.user ≡ old.user → GoesOn answers readings last told faults old new history after
+  round_goes old new history after legal counts grows controllers nodes user = record {
+    counts = counts;
+    grows = members_grow (length old.controllers.items) (length old.kubelets.items) history after grows;
+    controllers = controllers;
+    nodes = nodes;
+    user = λ since is.
+        subst (λ (k : K). UserFollows since (clock_told readings last k) after) (sym user)
+        (user_turns since (clock_told readings last old.user) (length old.controllers.items) (length old.kubelets.items) history after legal grows is);
+  }
+
+  -- the user's clock rested
+  pub rested_goes : (old new : Bench K H G) (user : K) (history after : List Entry) → readings user ≡ readings new.user → last user ≡ last new.user → GoesOn answers readings last told faults old new history after → GoesOn answers readings last told faults old (record new { user = user }) history after
+  rested_goes old new user history after same_readings same_last goes = record {
+    counts = goes.counts;
+    grows = goes.grows;
+    controllers = goes.controllers;
+    nodes = goes.nodes;
+    user = λ since is. rw (same_readings, same_last) (goes.user since is);
   }
 
   -- only nodes changed
-  pub goes_killed : (start old new : Bench K H G) (first history : List Entry) → new.controllers.items ≡ old.controllers.items → length new.kubelets.items ≡ length old.kubelets.items → AllFollow (NodeFollows answers readings last) old.kubelets.items new.kubelets.items history history → GoesOn answers readings last start old first history → GoesOn answers readings last start new first history
-  goes_killed start old new first history controllers count follow was =
+  pub goes_killed : (start old new : Bench K H G) (first history : List Entry) → new.controllers.items ≡ old.controllers.items → new.user ≡ old.user → length new.kubelets.items ≡ length old.kubelets.items → AllFollow (NodeFollows answers readings last told faults) old.kubelets.items new.kubelets.items history history → GoesOn answers readings last told faults start old first history → GoesOn answers readings last told faults start new first history
+  goes_killed start old new first history controllers user count follow was =
       goes_on start old new first history history was (record {
         counts = (ap length controllers, count);
         grows = grows_none (OfMembers (length old.controllers.items) (length old.kubelets.items)) history;
         controllers = λ i s a b at_a at_b is. follow_none (ControllerFollows answers readings last) old.controllers.items history i s a b at_a (subst (λ (cs : List (Controller K G)). slice_get cs i ≡ Some b) controllers at_b) is;
         nodes = follow;
+        user = λ since is. subst (λ (k : K). UserFollows since (clock_told readings last k) history) (sym user) is;
       })
 
-  pub ready_killed : (told : H → List Event) (killed : H → ℕ → Bool) (old new : Bench K H G) (history : List Entry) → new.controllers.items ≡ old.controllers.items → length new.kubelets.items ≡ length old.kubelets.items → AllReady node_number (IsReadyNode told killed) history new.kubelets.items → IsReady told killed history old → IsReady told killed history new
-  ready_killed told killed old new history controllers count nodes was = record {
+  pub ready_killed : (killed : H → ℕ → Bool) (old new : Bench K H G) (history : List Entry) → new.controllers.items ≡ old.controllers.items → length new.kubelets.items ≡ length old.kubelets.items → AllReady node_number (IsReadyNode told killed) history new.kubelets.items → IsReady told killed history old → IsReady told killed history new
+  ready_killed killed old new history controllers count nodes was = record {
     few = (let few = was.few.0 in let same = ap length controllers in omega (arith, few, same), let few = was.few.1 in omega (arith, few, count));
     controllers = subst (AllReady controller_number IsReadyController history) (sym controllers) was.controllers;
     nodes = nodes;
   }
+
+pub rested_ready : {K H G : Type 0} → (told : H → List Event) (killed : H → ℕ → Bool) (bench : Bench K H G) (user : K) (history : List Entry) → IsReady told killed history bench → IsReady told killed history (record bench { user = user })
+rested_ready told killed bench user history ready = record { few = ready.few; controllers = ready.controllers; nodes = ready.nodes }
 
 -- members that begin
 

@@ -1,5 +1,5 @@
 -- What stands of a bench that begins, over a journal that only admits.
-use Rattle.std.proofs.Common.{◌≡◌, ℕ, List, [], ◌∷◌, ◌++◌, Option, Some, None, true, false, refl, sym, ◌∙◌, ap, subst, arith}
+use Rattle.std.proofs.Common.{◌≡◌, ◌≤◌, ℕ, List, [], ◌∷◌, ◌++◌, Option, Some, None, true, false, refl, sym, ◌∙◌, ap, subst, arith}
 use Rattle.std.specs.Prelude.{All, Bool}
 use Rattle.std.proofs.lemmas.List.Elements.{All-nil, All-cons, All-head, All-tail}
 use Rattle.tk_edge.specs.declared.event.Event.{Event}
@@ -16,7 +16,7 @@ use Rattle.tk_journal.specs.Legal.{IsLegal, is_admit}
 use Rattle.tk_journal.specs.Rows.{IsJustified}
 use Rattle.tk_cache.specs.Views.{seen}
 use Rattle.tk_cache.proofs.Showing.{shows_none}
-use Rattle.tk_held.specs.Laws.{AreAdmits}
+use Rattle.tk_held.specs.Laws.{AreAdmits, HasNoClaim}
 use Rattle.tk_held.proofs.Nothing.{nothing_is_met}
 use Rattle.tk_kubelet.specs.Holding.{IsMet, holding_of}
 use Rattle.tk_rounds.specs.declared.bench.Controller.{Controller}
@@ -24,9 +24,13 @@ use Rattle.tk_rounds.specs.declared.bench.Node.{Node}
 use Rattle.tk_rounds.specs.Bench.{ControllerFollows, IsReadyController, IsReadyNode, NodeFollows}
 use Rattle.tk_rounds.specs.Covered.{AreCovered}
 use Rattle.tk_rounds.specs.Follows.{FollowsSince, IsToldSince, IsToldWhile, Told, told_by}
+use Rattle.tk_rounds.specs.Outcomes.{HasOutcomes}
 use Rattle.tk_rounds.specs.Members.{AreOfLife, IsOfLife, by_controller, by_kubelet, of_controller, of_kubelet}
 use Rattle.tk_rounds.specs.Timed.{IsSublist, moments}
 use Rattle.tk_rounds.proofs.Coverage.{fronts_none}
+use Rattle.tk_edge.specs.Readings.{AddsWhileTold}
+use Rattle.tk_run.specs.Asks.{UserFollows, by_user, clock_told, of_user}
+use Rattle.tk_run.proofs.Asked.{user_reads, user_starts}
 use Rattle.tk_run.specs.Begun.{IsNewController, IsNewNode, controller_begun, node_begun}
 
 -- what admits is of admission
@@ -118,9 +122,29 @@ module _ {K H G : Type 0} (answers : G → Option (List GateTurn)) (readings : K
         (nothing_is_met.any number 1 root history (killed n.host) (nothing_is_met.admitted number 1 history admits));
   }
 
-  pub node_starts : (root : List ℕ) (number : ℕ) (n : Node K H G) (history : List Entry) → IsNewNode told n → All IsOfAdmission history → NodeFollows answers readings last (node_begun root number n) (node_begun root number n) history
-  node_starts root number n history new all = record {
+  -- no pod of a kubelet ended yet
+  outcomes_none : (faults : H → ℕ) (root : List ℕ) (number : ℕ) (n : Node K H G) (history : List Entry) → HasNoClaim number 1 history → HasOutcomes number 1 root [] (faults n.host) (faults n.host) (told n.host) history
+  outcomes_none faults root number n history none = record {
+    failed = [];
+    few = omega arith;
+    each = λ name state ended is mine over. absurd (none name state is mine);
+  }
+
+  pub node_starts : (faults : H → ℕ) (root : List ℕ) (number : ℕ) (n : Node K H G) (history : List Entry) → IsNewNode told n → AreAdmits history → All IsOfAdmission history → NodeFollows answers readings last told faults (node_begun root number n) (node_begun root number n) history
+  node_starts faults root number n history new admits all = record {
     since = starts (of_kubelet number) (told_by answers readings last n.gate n.clock) n.cache.fronts history (none_of_kubelet number history all) new.unseen.within;
     same = record { number = refl; life = refl; root = refl };
     life = life_none number 1 history (none_of_kubelet number history all);
+    outcomes = outcomes_none faults root number n history (nothing_is_met.admitted number 1 history admits);
+    deeds = rw new.silent tt;
   }
+
+-- the user's clock gave its first reading
+
+no_user : (history : List Entry) → All IsOfAdmission history → All (λ (e : Entry). of_user e ≡ false) history
+no_user history all = all_as of_user (λ e is. ap by_user is) history all
+
+pub user_began : {K : Type 0} → (readings : K → Option (List ℕ)) (last : K → ℕ) (old now : K) (history : List Entry) → IsLegal history → AreAdmits history → last old ≤ last now → AddsWhileTold (last now) (readings old) (readings now) → UserFollows (clock_told readings last old) (clock_told readings last now) history
+user_began readings last old now history legal admits later told =
+    user_reads (clock_told readings last old) (clock_told readings last old) (clock_told readings last now) history later told
+    (user_starts (clock_told readings last old) history (no_user history (all_of_admission history legal admits)))

@@ -1,3 +1,4 @@
+pub mod Asks
 pub mod Begun
 pub mod Run
 pub mod Going

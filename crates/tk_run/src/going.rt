@@ -1,15 +1,17 @@
-ghost use Rattle.std.specs.Prelude.{◌≡◌, ◌↔◌, IfOk, OnOk, IsTrue};
+ghost use Rattle.std.specs.Prelude.{◌≡◌, ◌≤◌, ◌↔◌, ℕ, length, IfOk, OnOk, IsTrue};
 ghost use Rattle.tk_cache.specs.Fronts.{Shows};
 ghost use Rattle.tk_cache.specs.Views.{seen};
 ghost use Rattle.tk_journal.specs.Legal.{IsLegal};
 ghost use Rattle.tk_journal.specs.Progress.{IsOpen};
+ghost use Rattle.tk_run.specs.Asks.{AreTried, IsEachTried};
 ghost use Rattle.tk_run.specs.Going.{GoesOn, IsReady};
 
+use crate::asks::{AskWord, Asking, all_tried, ask_due};
 use std::alloc::{AllocError, Global};
 use std::sync::Wait;
 use tk_cache::Cache;
 use tk_edge::{Clock, Gate, Host};
-use tk_rounds::{Bench, serial_round};
+use tk_rounds::{Bench, Controller, Member, Node, serial_round};
 use tk_store::Store;
 use tk_world::{deliver_all, is_open};
 
@@ -25,29 +27,129 @@ fn is_going(watch: &mut Cache, store: &Store) -> Result<bool, AllocError>
     Ok(is_open(watch))
 }
 
-/// Rounds until every run is closed or pending. After a round without an entry the user's clock rests. The only error is
-/// want of memory.
+/// Asks what is due, while the members of the bench stay as they are. The only error is want of memory.
+fn ask<K: Clock, H: Host, G: Gate>(
+    alloc: Global,
+    bench: &mut Bench<K, H, G>,
+    words: &[AskWord],
+    asking: &mut Asking,
+    store: &mut Store,
+) -> Result<(), AllocError>
+    requires ready { IsReady H.told H.killed store.old.history bench.old }
+    requires count { length asking.old.tried.items ≡ length words.now }
+    ensures count { length asking.new.tried.items ≡ length asking.old.tried.items }
+    ensures start { asking.new.start ≡ asking.old.start }
+    ensures legal { IsLegal store.new.history }
+    ensures ready { IsReady H.told H.killed store.new.history bench.new }
+    ensures goes { GoesOn G.answers K.readings K.last H.told H.faults bench.old bench.new store.old.history store.new.history }
+    ensures asks { (since : ℕ) → since ≤ asking.old.start → AreTried since words.now asking.old.tried.items store.old.history → AreTried since words.now asking.new.tried.items store.new.history }
+{
+    Controller::<K, G>::laws();
+    Node::<K, H, G>::laws();
+    ask_due(alloc, &mut bench.user, words, asking, store)
+}
+
+/// A round of the bench, and by how many entries the journal grew. The only error is want of memory.
+fn round<K: Clock, H: Host, G: Gate>(
+    alloc: Global,
+    bench: &mut Bench<K, H, G>,
+    words: &[AskWord],
+    asking: &Asking,
+    store: &mut Store,
+) -> Result<u64, AllocError>
+    requires ready { IsReady H.told H.killed store.old.history bench.old }
+    ensures legal { IsLegal store.new.history }
+    ensures ready { IsReady H.told H.killed store.new.history bench.new }
+    ensures goes { GoesOn G.answers K.readings K.last H.told H.faults bench.old bench.new store.old.history store.new.history }
+    ensures asks { (since : ℕ) → AreTried since words.now asking.now.tried.items store.old.history → AreTried since words.now asking.now.tried.items store.new.history }
+{
+    let end = serial_round(bench, alloc, store);
+    store.legal();
+    Ok(end?.wrote)
+}
+
+/// What is due is asked, and a round follows. The only error is want of memory.
+fn go_on<K: Clock, H: Host, G: Gate>(
+    alloc: Global,
+    bench: &mut Bench<K, H, G>,
+    words: &[AskWord],
+    asking: &mut Asking,
+    store: &mut Store,
+) -> Result<u64, AllocError>
+    requires ready { IsReady H.told H.killed store.old.history bench.old }
+    requires count { length asking.old.tried.items ≡ length words.now }
+    ensures count { length asking.new.tried.items ≡ length asking.old.tried.items }
+    ensures start { asking.new.start ≡ asking.old.start }
+    ensures legal { IsLegal store.new.history }
+    ensures ready { IsReady H.told H.killed store.new.history bench.new }
+    ensures goes { GoesOn G.answers K.readings K.last H.told H.faults bench.old bench.new store.old.history store.new.history }
+    ensures asks { (since : ℕ) → since ≤ asking.old.start → AreTried since words.now asking.old.tried.items store.old.history → AreTried since words.now asking.new.tried.items store.new.history }
+{
+    ask(alloc, bench, words, asking, store)?;
+    round(alloc, bench, words, asking, store)
+}
+
+/// Whether each word was tried, and no run that isn't pending is open. The only error is want of memory.
+fn is_over(asking: &Asking, watch: &mut Cache, store: &Store) -> Result<bool, AllocError>
+    requires shows { Shows (seen watch.old) store.now.history }
+    ensures shows { Shows (seen watch.new) store.now.history }
+    ensures over { IfOk result (λ over. IsTrue over → IsEachTried asking.now.tried.items × (IsOpen store.now.history → ⊥)) }
+{
+    if !all_tried(asking.tried.as_slice()) {
+        return Ok(false);
+    }
+    Ok(!is_going(watch, store)?)
+}
+
+/// How often the user's clock rests at most behind one round.
+const RESTS: u64 = 64;
+
+/// How many rounds came to nothing, behind one that wrote so many entries.
+fn idle_after(idle: u64, wrote: u64) -> u64 {
+    if wrote > 0 { 0 } else { idle.saturating_add(1) }
+}
+
+/// The user's clock rests, the more often the more rounds came to nothing.
+fn rest<K: Clock>(user: &mut K, idle: u64)
+    ensures last { K.last user.new ≡ K.last user.old }
+    ensures told { K.readings user.new ≡ K.readings user.old }
+{
+    for _ in 0..(1 + idle / 16).min(RESTS) {
+        user.rest();
+    }
+}
+
+/// Rounds until every run is closed or pending and each word was tried. After a round without an entry the user's clock
+/// rests. The only error is want of memory.
 pub(crate) fn rounds<T: Wait, K: Clock, H: Host, G: Gate>(
     rt: &T,
     alloc: Global,
     bench: &mut Bench<K, H, G>,
+    words: &[AskWord],
+    asking: &mut Asking,
     store: &mut Store,
     watch: &mut Cache,
 ) -> Result<(), AllocError>
     requires ready { IsReady H.told H.killed store.old.history bench.old }
     requires shows { Shows (seen watch.old) store.old.history }
+    requires count { length asking.old.tried.items ≡ length words.now }
     ensures ready { IsReady H.told H.killed store.new.history bench.new }
-    ensures goes { GoesOn G.answers K.readings K.last bench.old bench.new store.old.history store.new.history }
+    ensures goes { GoesOn G.answers K.readings K.last H.told H.faults bench.old bench.new store.old.history store.new.history }
+    ensures asks { (since : ℕ) → since ≤ asking.old.start → AreTried since words.now asking.old.tried.items store.old.history → AreTried since words.now asking.new.tried.items store.new.history }
+    ensures count { length asking.new.tried.items ≡ length words.now }
+    ensures tried { OnOk result (IsEachTried asking.new.tried.items) }
     ensures legal { IsLegal store.new.history }
     ensures closed { OnOk result (IsOpen store.new.history → ⊥) }
 {
+    let mut idle = 0u64;
     for _ in rt.forever() {
-        let end = serial_round(bench, alloc, store)?;
-        if end.wrote == 0 {
-            if !is_going(watch, store)? {
+        let wrote = go_on(alloc, bench, words, asking, store)?;
+        idle = idle_after(idle, wrote);
+        if idle > 0 {
+            if is_over(asking, watch, store)? {
                 return Ok(());
             }
-            bench.user.rest();
+            rest(&mut bench.user, idle);
         }
     }
     unreachable!()

@@ -3,9 +3,11 @@
 //! whatever gates answered and whatever hosts did.
 #![tactic(auto)]
 
+mod asks;
 mod beginning;
 mod going;
 mod killing;
 mod running;
 
+pub use asks::AskWord;
 pub use running::{Ran, run};

@@ -30,18 +30,18 @@ use Rattle.tkn.specs.Due.{answered, decided_if_there, checked, due_by, IsRefusal
 use Rattle.tkn.specs.Plain.{IsReadDue, is_answer}
 
 -- the fault of an input that is longer than the longest
-pub longer_fault : (kinds : KindSet) (bytes : List ℕ) → 8388608 < length bytes → input_fault kinds 0 bytes ≡ Some too_long
-longer_fault kinds bytes lt =
+pub longer_fault : (kinds : KindSet) (asks : ℕ) (bytes : List ℕ) → 8388608 < length bytes → input_fault kinds asks bytes ≡ Some too_long
+longer_fault kinds asks bytes lt =
     let yes : nat_lt 8388608 (length bytes) ≡ true = grind (arith, nat_tests) in
-    ap (λ (b : Bool). first_of (first_of (refused_if b too_long ∷ json_fault kinds (json_of bytes) ∷ []) ∷ items_fault kinds 0 (objects_of kinds bytes) ∷ [])) yes
+    ap (λ (b : Bool). first_of (first_of (refused_if b too_long ∷ json_fault kinds (json_of bytes) ∷ []) ∷ items_fault kinds asks (objects_of kinds bytes) ∷ [])) yes
 
 longer_due : (accepted : Admitted → Due) (kinds : KindSet) (bytes : List ℕ) → 8388608 < length bytes → rejected too_long ≡ due_by accepted kinds bytes
-longer_due accepted kinds bytes lt = sym (ap (answered accepted (admitted kinds 0 root bytes)) (longer_fault kinds bytes lt))
+longer_due accepted kinds bytes lt = sym (ap (answered accepted (admitted kinds 0 root bytes)) (longer_fault kinds 0 bytes lt))
 
 longer_answer : (command : Command) (bytes : List ℕ) (answer : Answer) → answer.due ≡ rejected too_long → answer.journal.history ≡ [] → 8388608 < length bytes → IsAnswer command bytes answer
 longer_answer Check bytes answer is none lt = (is ∙ longer_due (λ (found : Admitted). checked found.objects) Four bytes lt, none)
 longer_answer Decide bytes answer is none lt = (is ∙ longer_due (λ (found : Admitted). decided_if_there found.outcomes) WithOutcomes bytes lt, none)
-longer_answer (Simulate json) bytes answer is none lt = subst (λ (found : Finding). Simulates json bytes found answer) (sym (longer_fault WithScenario bytes lt)) (is, none)
+longer_answer (Simulate json) bytes answer is none lt = subst (λ (found : Finding). Simulates json bytes found answer) (sym (longer_fault WithScenario 0 bytes lt)) (is, none)
 
 untold_due : (command : Command) (ended : Bool) (n : ℕ) (answer : Answer) → answer.due ≡ rejected too_long → answer.journal.history ≡ [] → 8388608 < n → IsReadDue command None ended answer
 untold_due command ended n answer is none lt =

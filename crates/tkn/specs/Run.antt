@@ -6,12 +6,11 @@ use Rattle.tk_types.specs.First.{Finding}
 use Rattle.tk_edge.specs.Causes.{raised}
 use Rattle.tk_edge.specs.declared.event.Event.{Event}
 use Rattle.tk_edge.specs.declared.gate.GateTurn.{GateTurn}
-use Rattle.tk_manifest.specs.declared.kinds.KindSet.TheVariants.{Four}
-use Rattle.tk_admit.specs.Admit.{input_fault}
 use Rattle.tk_journal.specs.declared.entry.Entry.{Entry}
 use Rattle.tk_journal.specs.Progress.{IsOpen}
 use Rattle.tk_rounds.specs.declared.bench.Bench.{Bench}
-use Rattle.tk_run.specs.Run.{IsRun, given_by}
+use Rattle.tk_run.specs.Asks.{AreAllTried}
+use Rattle.tk_run.specs.Run.{IsRun, fault_by, given_by}
 use Rattle.tkn.specs.declared.answer.Answer.{Answer}
 use Rattle.tkn.specs.declared.command.Command.{Command}
 use Rattle.tkn.specs.declared.due.Due.{Due}
@@ -20,7 +19,7 @@ use Rattle.tkn.specs.declared.top.Unrun.TheVariants as unrun
 use Rattle.tkn.specs.Answer.{reported}
 use Rattle.tkn.specs.Due.{IsRefusalDue, rejected}
 use Rattle.tkn.specs.Plain.{IsOver, Told}
-use Rattle.tkn.specs.RunWords.{RunOptions}
+use Rattle.tkn.specs.declared.run_words.RunOptions.{RunOptions}
 use Rattle.tkn.specs.Written.{AppendsFront}
 
 -- the words are neither options of `run` nor another command
@@ -43,17 +42,18 @@ PrintsOne Is before after status history =
 abbrev pub PrintsFrontOf : (Answer → Type 0) → Option (List ℕ) → Option (List ℕ) → List Entry → Type 0
 PrintsFrontOf Is before after history = (answer : Answer) × Is answer × AppendsFront before after answer.due.text × (history ≡ answer.journal.history)
 
-module _ {K H G : Type 0} (answers : G → Option (List GateTurn)) (readings : K → Option (List ℕ)) (last : K → ℕ) (told : H → List Event) (killed : H → ℕ → Bool) where
+module _ {K H G : Type 0} (answers : G → Option (List GateTurn)) (readings : K → Option (List ℕ)) (last : K → ℕ) (told : H → List Event) (killed : H → ℕ → Bool) (faults : H → ℕ) where
   -- an input with a fault comes to no journal and leaves the bench as it is; without one its runs are run to their end, and
   -- the journal is reported
   abbrev pub RunsBy : RunOptions → List ℕ → Bench K H G → Bench K H G → Finding → Answer → Type 0
   RunsBy options bytes old new (Some fault) answer = (answer.due ≡ rejected fault) × (answer.journal.history ≡ []) × (new ≡ old)
   RunsBy options bytes old new None answer =
-      IsRun answers readings last told killed (given_by options.root bytes) old new answer.journal.history × (IsOpen answer.journal.history → ⊥)
+      IsRun answers readings last told killed faults options.root options.asks (given_by options.root options.asks bytes) old new answer.journal.history × (IsOpen answer.journal.history → ⊥)
+      × AreAllTried (last old.user) options.asks answer.journal.history
       × (answer.due ≡ reported options.json answer.journal.history)
 
   abbrev pub IsRunAnswer : RunOptions → List ℕ → Bench K H G → Bench K H G → Answer → Type 0
-  IsRunAnswer options bytes old new answer = RunsBy options bytes old new (input_fault Four 0 bytes) answer
+  IsRunAnswer options bytes old new answer = RunsBy options bytes old new (fault_by options.asks bytes) answer
 
   -- this is answered for the bytes of the input, which is read to its end or too long
   abbrev pub IsRunDue : RunOptions → Option (List ℕ) → Bool → Bench K H G → Bench K H G → Answer → Type 0
@@ -63,7 +63,7 @@ module _ {K H G : Type 0} (answers : G → Option (List GateTurn)) (readings : K
   abbrev pub RunsSoFar : RunOptions → List ℕ → Bench K H G → Bench K H G → List Entry → Type 0
   RunsSoFar options bytes old new history =
       ((history ≡ []) × (new ≡ old))
-      ⊎ ((input_fault Four 0 bytes ≡ None) × IsRun answers readings last told killed (given_by options.root bytes) old new history)
+      ⊎ ((fault_by options.asks bytes ≡ None) × IsRun answers readings last told killed faults options.root options.asks (given_by options.root options.asks bytes) old new history)
 
   -- so of the bytes of an input
   abbrev pub RunsSoFarOf : RunOptions → Option (List ℕ) → Bench K H G → Bench K H G → List Entry → Type 0
@@ -78,3 +78,8 @@ module _ {K H G : Type 0} (answers : G → Option (List GateTurn)) (readings : K
 abbrev pub CountsRun : {T : Type 0} → ℕ → ℕ → Result T Unrun → Type 0
 CountsRun before after (Err unrun.Failed) = after ≡ raised before
 CountsRun before after _ = after ≡ before
+
+-- where memory ran out: nothing was written and it came so far, or a front of what is due was written
+pub data IsCutShort (Unwritten SoFar Front : Type 0) : Type 0 where
+  Before : Unwritten → SoFar → IsCutShort Unwritten SoFar Front
+  Behind : Front → IsCutShort Unwritten SoFar Front

@@ -17,10 +17,14 @@ mod decision_tests;
 mod due;
 mod input;
 mod output;
+#[cfg(test)]
+mod outside_tests;
 mod plain;
 #[cfg(test)]
 mod rule_tests;
 mod run_words;
+#[cfg(test)]
+mod run_words_tests;
 #[cfg(test)]
 mod simulate_tests;
 #[cfg(test)]
@@ -40,7 +44,7 @@ use top::tkn;
 fn message(status: u8) -> Option<&'static str> {
     match status {
         2 => Some(
-            "tkn: no such command; usage: tkn check < INPUT.json, tkn decide < INPUT.json, tkn simulate [--json] < INPUT.json, or tkn run [--json] [--root DIR] < INPUT.json",
+            "tkn: no such command; usage: tkn check < INPUT.json, tkn decide < INPUT.json, tkn simulate [--json] < INPUT.json, or tkn run [--json] [--root DIR] [RUN=STATUS@DURATION].. < INPUT.json",
         ),
         4 => Some("tkn: standard input can't be read; give the input by < INPUT.json or by a pipe"),
         5 => Some(

@@ -1,24 +1,46 @@
-ghost use Rattle.std.specs.Prelude.{◌≡◌, false, true, MatchOption, None, Some};
-ghost use Rattle.tkn.specs.RunWords.{at_end as none_left, behind_json as json_behind, first_option as option_first, is_absolute as starts_at_root, joined_root, rooted, rooted_next, run_options, with_both as both_found, with_json as json_found, with_root as root_found};
+ghost use Rattle.std.specs.Prelude.{◌≡◌, true, MatchOption, IfOk, None, Some, not, unwrap_or};
+ghost use Rattle.tkn.specs.RunWords.{Fits, ask_of, asked_of, default_root, finished, joined_root as joined_in_word, run_options, starts_with as first_is, step, with_ask, with_option, with_other, with_root};
 
-use tk_types::Text;
+use std::alloc::{AllocError, Global};
+use tk_run::AskWord;
+use tk_time::read_duration;
+use tk_types::{Asked, List, Text};
 
 /// The folder below which a run's files stand where no word says it.
 const DEFAULT_ROOT: &str = "/tmp/tkn";
 
-/// Whether a path is absolute.
-fn is_absolute(path: &str) -> bool
-    ensures { result ≡ starts_at_root path.now }
+/// The options of `run`: whether the report is JSON, the folder below which the runs' files stand, and what is asked of runs.
+#[derive(Drop)]
+pub struct RunOptions {
+    pub json: bool,
+    pub root: Text,
+    pub asks: List<AskWord>,
+}
+
+/// What the words said so far. `awaits` says that the next one is the root's folder, and `only_asks` that each further one is
+/// an ask.
+#[derive(Drop)]
+struct Scan {
+    json: bool,
+    root: Option<Text>,
+    awaits: bool,
+    only_asks: bool,
+    asks: List<AskWord>,
+}
+
+/// Whether a word begins with a byte.
+fn starts_with(word: &str, first: u8) -> bool
+    ensures { result ≡ first_is first word.now }
 {
-    match path.as_bytes() {
-        [byte, ..] => *byte == b'/',
+    match word.as_bytes() {
+        [byte, ..] => *byte == first,
         [] => false,
     }
 }
 
 /// The folder in a word `--root=DIR`.
-fn joined(word: &str) -> Option<&str>
-    ensures { MatchOption result (joined_root word.now ≡ None) (λ folder. joined_root word.now ≡ Some folder.now) }
+fn joined_root(word: &str) -> Option<&str>
+    ensures { MatchOption result (joined_in_word word.now ≡ None) (λ folder. joined_in_word word.now ≡ Some folder.now) }
 {
     match word.split_once('=') {
         Some(("--root", folder)) => Some(folder),
@@ -26,133 +48,169 @@ fn joined(word: &str) -> Option<&str>
     }
 }
 
-/// The options where nothing may be left.
-fn at_end<'a>(json: bool, root: &'a str, words: &[Text]) -> Option<(bool, &'a str)>
-    ensures { MatchOption result (none_left json root.now words.now ≡ None) (λ found. none_left json root.now words.now ≡ Some record { json = found.0; root = found.1.now }) }
-{
-    if words.is_empty() {
-        Some((json, root))
-    } else {
-        None
-    }
-}
-
-/// The options behind both of them.
-fn with_both<'a>(root: &'a str, words: &[Text]) -> Option<(bool, &'a str)>
-    ensures { MatchOption result (both_found root.now words.now ≡ None) (λ found. both_found root.now words.now ≡ Some record { json = found.0; root = found.1.now }) }
-{
-    match words {
-        [] => at_end(true, root, words),
-        [word, rest @ ..] => match word.as_str() {
-            "--" => at_end(true, root, rest),
-            _ => None,
-        },
-    }
-}
-
-/// The options behind `--root`.
-fn with_root<'a>(root: &'a str, words: &[Text]) -> Option<(bool, &'a str)>
-    ensures { MatchOption result (root_found root.now words.now ≡ None) (λ found. root_found root.now words.now ≡ Some record { json = found.0; root = found.1.now }) }
-{
-    match words {
-        [] => at_end(false, root, words),
-        [word, rest @ ..] => match word.as_str() {
-            "--json" => with_both(root, rest),
-            "--" => at_end(false, root, rest),
-            _ => None,
-        },
-    }
-}
-
-/// A root behind `--json`.
-fn json_and_root<'a>(root: &'a str, words: &[Text]) -> Option<(bool, &'a str)>
-    ensures { MatchOption result (rooted both_found (Some root.now) words.now ≡ None) (λ found. rooted both_found (Some root.now) words.now ≡ Some record { json = found.0; root = found.1.now }) }
-{
-    if is_absolute(root) {
-        with_both(root, words)
-    } else {
-        None
-    }
-}
-
-/// A root before all else.
-fn only_root<'a>(root: &'a str, words: &[Text]) -> Option<(bool, &'a str)>
-    ensures { MatchOption result (rooted root_found (Some root.now) words.now ≡ None) (λ found. rooted root_found (Some root.now) words.now ≡ Some record { json = found.0; root = found.1.now }) }
-{
-    if is_absolute(root) {
-        with_root(root, words)
-    } else {
-        None
-    }
-}
-
-/// The options behind `--json`, where the next word is this one.
-fn joined_behind_json<'a>(word: &'a str, words: &'a [Text]) -> Option<(bool, &'a str)>
-    ensures { MatchOption result (rooted both_found (joined_root word.now) words.now ≡ None) (λ found. rooted both_found (joined_root word.now) words.now ≡ Some record { json = found.0; root = found.1.now }) }
-{
-    match joined(word) {
-        Some(root) => json_and_root(root, words),
-        None => None,
-    }
-}
-
-/// The options where the first word is this one.
-fn joined_first<'a>(word: &'a str, words: &'a [Text]) -> Option<(bool, &'a str)>
-    ensures { MatchOption result (rooted root_found (joined_root word.now) words.now ≡ None) (λ found. rooted root_found (joined_root word.now) words.now ≡ Some record { json = found.0; root = found.1.now }) }
-{
-    match joined(word) {
-        Some(root) => only_root(root, words),
-        None => None,
-    }
-}
-
-/// The options behind `--json`, the first of which is this word.
-fn behind_json<'a>(word: &'a str, words: &'a [Text]) -> Option<(bool, &'a str)>
-    ensures { MatchOption result (json_behind word.now words.now ≡ None) (λ found. json_behind word.now words.now ≡ Some record { json = found.0; root = found.1.now }) }
+/// The status of this name.
+fn status_named(word: &str) -> Option<Asked>
+    ensures { result ≡ asked_of word.now }
 {
     match word {
-        "--root" => match words {
-            [] => None,
-            [root, rest @ ..] => json_and_root(root.as_str(), rest),
-        },
-        "--" => at_end(true, DEFAULT_ROOT, words),
-        _ => joined_behind_json(word, words),
+        "Start" => Some(Asked::Start),
+        "StoppedRunFinally" => Some(Asked::StoppedRunFinally),
+        "CancelledRunFinally" => Some(Asked::CancelledRunFinally),
+        "Cancelled" => Some(Asked::Cancelled),
+        "TaskRunCancelled" => Some(Asked::TaskRunCancelled),
+        _ => None,
     }
 }
 
-/// The options behind `--json`.
-fn with_json(words: &[Text]) -> Option<(bool, &str)>
-    ensures { MatchOption result (json_found words.now ≡ None) (λ found. json_found words.now ≡ Some record { json = found.0; root = found.1.now }) }
+/// What a word `RUN=STATUS@DURATION` asks. The only error is want of memory.
+fn read_ask(alloc: Global, word: &str) -> Result<Option<AskWord>, AllocError>
+    ensures { IfOk result (λ ask. ask ≡ ask_of word.now) }
 {
-    match words {
-        [] => at_end(true, DEFAULT_ROOT, words),
-        [word, rest @ ..] => behind_json(word.as_str(), rest),
+    let (run, rest) = match word.split_once('=') {
+        Some(halves) => halves,
+        None => return Ok(None),
+    };
+    let (status, duration) = match rest.split_once('@') {
+        Some(halves) => halves,
+        None => return Ok(None),
+    };
+    if run.is_empty() {
+        return Ok(None);
+    }
+    match (status_named(status), read_duration(duration)) {
+        (Some(status), Some(delay)) => Ok(Some(AskWord {
+            run: Text::from_str(alloc, run)?,
+            status,
+            delay,
+        })),
+        _ => Ok(None),
     }
 }
 
-/// The options of which this word is the first.
-fn first_option<'a>(word: &'a str, words: &'a [Text]) -> Option<(bool, &'a str)>
-    ensures { MatchOption result (option_first word.now words.now ≡ None) (λ found. option_first word.now words.now ≡ Some record { json = found.0; root = found.1.now }) }
+/// The root that was given, or else the default one. The only error is want of memory.
+fn root_or_default(alloc: Global, root: Option<Text>) -> Result<Text, AllocError>
+    ensures { IfOk result (λ folder. folder ≡ unwrap_or root default_root) }
 {
-    match word {
-        "--json" => with_json(words),
-        "--root" => match words {
-            [] => None,
-            [root, rest @ ..] => only_root(root.as_str(), rest),
-        },
-        "--" => at_end(false, DEFAULT_ROOT, words),
-        _ => joined_first(word, words),
+    match root {
+        Some(root) => Ok(root),
+        None => Text::from_str(alloc, DEFAULT_ROOT),
     }
 }
 
-/// What the words behind `run` say, where they are options of it: `--json`, and `--root DIR` or `--root=DIR` with an
-/// absolute path, in any order and each at most once: whether the report is JSON, and the folder below which the runs'
-/// files stand.
-pub fn run_words(words: &[Text]) -> Option<(bool, &str)>
-    ensures { MatchOption result (run_options words.now ≡ None) (λ found. run_options words.now ≡ Some record { json = found.0; root = found.1.now }) }
-{
-    match words {
-        [] => at_end(false, DEFAULT_ROOT, words),
-        [word, rest @ ..] => first_option(word.as_str(), rest),
+impl Scan {
+    /// The root is given, with an absolute path and for the first time.
+    fn take_root(&mut self, alloc: Global, folder: &str) -> Result<bool, AllocError>
+        ensures { IfOk result (λ fits. Fits fits (with_root self.old folder.now) self.new) }
+    {
+        if self.root.is_some() || !starts_with(folder, b'/') {
+            return Ok(false);
+        }
+        self.root = Some(Text::from_str(alloc, folder)?);
+        self.awaits = false;
+        Ok(true)
     }
+
+    /// A word asks something of a run.
+    fn take_ask(&mut self, alloc: Global, word: &str) -> Result<bool, AllocError>
+        ensures { IfOk result (λ fits. Fits fits (with_ask self.old (ask_of word.now)) self.new) }
+    {
+        match read_ask(alloc, word)? {
+            Some(ask) => {
+                self.asks.push(ask)?;
+                Ok(true)
+            }
+            None => Ok(false),
+        }
+    }
+
+    /// A word that is no option on its own: a root with its folder, or an ask.
+    fn take_other(&mut self, alloc: Global, word: &str) -> Result<bool, AllocError>
+        ensures { IfOk result (λ fits. Fits fits (with_other self.old word.now (joined_in_word word.now)) self.new) }
+    {
+        match joined_root(word) {
+            Some(folder) => self.take_root(alloc, folder),
+            None if starts_with(word, b'-') => Ok(false),
+            None => self.take_ask(alloc, word),
+        }
+    }
+
+    /// `--json` is given, for the first time.
+    fn take_json(&mut self) -> bool
+        ensures fits { result ≡ not self.old.json }
+        ensures same { self.new ≡ record self.old { json = true } }
+    {
+        let fits = !self.json;
+        self.json = true;
+        fits
+    }
+
+    /// A word in front of `--`.
+    fn take_option(&mut self, alloc: Global, word: &str) -> Result<bool, AllocError>
+        ensures { IfOk result (λ fits. Fits fits (with_option self.old word.now) self.new) }
+    {
+        match word {
+            "--" => {
+                self.only_asks = true;
+                Ok(true)
+            }
+            "--json" => Ok(self.take_json()),
+            "--root" => {
+                self.awaits = true;
+                Ok(true)
+            }
+            _ => self.take_other(alloc, word),
+        }
+    }
+
+    /// One word more. It tells whether the word fits. The only error is want of memory.
+    fn take(&mut self, alloc: Global, word: &str) -> Result<bool, AllocError>
+        ensures { IfOk result (λ fits. Fits fits (step self.old word.now) self.new) }
+    {
+        if self.awaits {
+            self.take_root(alloc, word)
+        } else if self.only_asks {
+            self.take_ask(alloc, word)
+        } else {
+            self.take_option(alloc, word)
+        }
+    }
+
+    /// What all the words said; None where a folder is still awaited. The only error is want of memory.
+    fn finish(self, alloc: Global) -> Result<Option<RunOptions>, AllocError>
+        ensures { IfOk result (λ found. found ≡ finished (Some self)) }
+    {
+        let Scan {
+            json,
+            root,
+            awaits,
+            asks,
+            ..
+        } = self;
+        if awaits {
+            return Ok(None);
+        }
+        let root = root_or_default(alloc, root)?;
+        Ok(Some(RunOptions { json, root, asks }))
+    }
+}
+
+/// What the words behind `run` say, where they are options and asks of it: `--json`, and `--root DIR` or `--root=DIR` with an
+/// absolute path, in any order and each at most once, and any number of `RUN=STATUS@DURATION`. Behind `--` each word is an ask.
+/// The only error is want of memory.
+pub fn run_words(alloc: Global, words: &[Text]) -> Result<Option<RunOptions>, AllocError>
+    ensures { IfOk result (λ found. found ≡ run_options words.now) }
+{
+    let mut scan = Scan {
+        json: false,
+        root: None,
+        awaits: false,
+        only_asks: false,
+        asks: List::new(alloc),
+    };
+    for place in 0..words.len() {
+        if !scan.take(alloc, words[place].as_str())? {
+            return Ok(None);
+        }
+    }
+    scan.finish(alloc)
 }

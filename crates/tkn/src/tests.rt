@@ -97,7 +97,7 @@ fn bytes(alloc: Global, text: &str) -> Result<Bytes, AllocError> {
     Ok(Bytes::from_vec(Vec::from_slice(alloc, text.as_bytes())?))
 }
 
-fn words(alloc: Global, text: &str) -> Result<List<Text>, AllocError> {
+pub(crate) fn words(alloc: Global, text: &str) -> Result<List<Text>, AllocError> {
     let mut words = List::new(alloc);
     for word in text.split(' ') {
         words.push(Text::from_str(alloc, word)?)?;

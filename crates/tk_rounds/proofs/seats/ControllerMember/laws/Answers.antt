@@ -4,5 +4,5 @@ use Rattle.tk_rounds.proofs.Standing.{since_other}
 use Rattle.tk_rounds.proofs.seats.ControllerMember.laws.Goals as goal
 
 pub returns-clause-follow : goal.returns-clause-follow
-returns-clause-follow g c start m history e other ready is =
+returns-clause-follow g c start m history e legal other ready is =
     since_other (of_controller m.number) (told_by g.G.Gate.answers g.K.Clock.readings g.K.Clock.last start.gate start.clock) (told_by g.G.Gate.answers g.K.Clock.readings g.K.Clock.last m.gate m.clock) m.cache.fronts history e other ready.within is

@@ -1,0 +1,43 @@
+//! The words of `run`: which are options and asks of it, and what they say.
+
+use crate::run_words::run_words;
+use crate::tests::words;
+use std::test::Fail;
+
+/// Words behind `run`, and the root and the number of asks where they are options of it.
+const ROWS: [(&str, Option<(bool, &str, usize)>); 14] = [
+    ("--json", Some((true, "/tmp/tkn", 0))),
+    ("--root /a", Some((false, "/a", 0))),
+    ("--root=/a --json", Some((true, "/a", 0))),
+    ("--json --root /a --", Some((true, "/a", 0))),
+    ("r=Cancelled@10s", Some((false, "/tmp/tkn", 1))),
+    (
+        "r=Start@0 --json q=StoppedRunFinally@1m -- t=TaskRunCancelled@5ms",
+        Some((true, "/tmp/tkn", 3)),
+    ),
+    ("--json --json", None),
+    ("--root", None),
+    ("--root=x", None),
+    ("--root /a --root=/b", None),
+    ("-j", None),
+    ("r=Stopped@1s", None),
+    ("r=Cancelled@soon", None),
+    ("=Cancelled@1s", None),
+];
+
+#[test]
+fn words_of_run_are_read(rt: HostRuntime) -> Result<(), Fail> {
+    let alloc = rt.alloc();
+    for (text, wanted) in ROWS {
+        let words = words(alloc, text)?;
+        match (run_words(alloc, words.as_slice())?, wanted) {
+            (Some(options), Some((json, root, asks))) => {
+                assert_eq!(rt; options.json, json);
+                assert_eq!(rt; options.root.as_str(), root);
+                assert_eq!(rt; options.asks.len(), asks);
+            }
+            (found, wanted) => assert_eq!(rt; found.is_none(), wanted.is_none()),
+        }
+    }
+    Ok(())
+}
