@@ -4,7 +4,7 @@ use Rattle.tk_run_tests.proofs.Alone.{alone, some_alone}
 use Rattle.tk_run_tests.proofs.run_tests.bench.Goals as goal
 
 pub returns : goal.returns
-returns c =
+returns g c =
     let controllers = c.in_ok-push.ensures.items ∙ ap (λ xs. xs ++ c.controller.result ∷ []) c.new-controllers.ensures.items in
     let nodes = c.in_ok-push-2.ensures.items ∙ ap (λ xs. xs ++ c.in_ok-node.field-0 ∷ []) c.new-kubelets.ensures.items in
     record {
