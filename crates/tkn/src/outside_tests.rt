@@ -1,5 +1,7 @@
 //! Each read and each write of `simulate` fails in turn.
 
+ghost use Rattle.std.specs.Prelude.{Some};
+
 use crate::plain::plain;
 use crate::tests::{run, words};
 use std::alloc::Global;
