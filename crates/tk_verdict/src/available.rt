@@ -153,8 +153,8 @@ fn are_good(task: &PipelineTask, children: &[&Child]) -> bool
     !children.is_empty()
 }
 
-/// Adds the available results of a task with these children.
-fn add_of_task(
+/// Adds the available results of a task with these children: none where not all are good. The only error is want of memory.
+pub fn add_of_task(
     alloc: Global,
     made: &mut List<Given>,
     task: &PipelineTask,

@@ -30,8 +30,8 @@ fn bindings(alloc: Global, combinations: &[List<Param>]) -> Result<List<Binding>
     Ok(made)
 }
 
-/// The bindings of a task's combinations in an environment.
-fn bindings_in(
+/// The bindings of a task's combinations in an environment. The only error is want of memory.
+pub fn bindings_in(
     alloc: Global,
     lookup: &Lookup,
     task: &PipelineTask,

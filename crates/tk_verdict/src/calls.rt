@@ -25,8 +25,8 @@ fn ranks_of(alloc: Global, tasks: &[PipelineTask]) -> Result<Ranks, AllocError>
     }
 }
 
-/// The children of each task of a run.
-pub(crate) fn groups_of<'f>(alloc: Global, facts: &'f Facts) -> Result<Groups<'f>, AllocError>
+/// The children of each task of a run. The only error is want of memory.
+pub fn groups_of<'f>(alloc: Global, facts: &'f Facts) -> Result<Groups<'f>, AllocError>
     requires well_formed { IsWellFormed facts.now }
     ensures { IfOk result (λ groups. groups ≡ facts.now.children) }
 {
@@ -34,8 +34,8 @@ pub(crate) fn groups_of<'f>(alloc: Global, facts: &'f Facts) -> Result<Groups<'f
     Groups::new(alloc, total, facts.children.as_slice())
 }
 
-/// Ranks of a run's tasks.
-pub(crate) fn ranks_of_run(alloc: Global, facts: &Facts) -> Result<Ranks, AllocError>
+/// Ranks of a run's tasks. The only error is want of memory.
+pub fn ranks_of_run(alloc: Global, facts: &Facts) -> Result<Ranks, AllocError>
     requires well_formed { IsWellFormed facts.now }
     ensures { IfOk result (λ ranks. IsRanking facts.now.spec.tasks ranks.list) }
 {

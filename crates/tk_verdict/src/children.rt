@@ -22,7 +22,7 @@ pub(crate) fn is_any_running(children: &[&Child]) -> bool
 }
 
 /// Whether there are children, and all of them ended well, for a task that ignores failures or not.
-pub(crate) fn are_all_good(children: &[&Child], ignores: bool) -> bool
+pub fn are_all_good(children: &[&Child], ignores: bool) -> bool
     ensures { result ≡ all_ended (is_good_where ignores) (map (λ c. c.now) children.now) }
 {
     if children.is_empty() {

@@ -103,7 +103,7 @@ fn is_without_combinations(matrix: &Option<Option<Matrix>>) -> bool
 /// The combinations of a task, where each reference in them has a value and they are at most 256, and whether a list of
 /// its matrix is empty.
 #[derive(Drop)]
-pub(crate) struct Combined {
+pub struct Combined {
     pub is_empty: bool,
     pub list: Option<List<List<Param>>>,
 }

@@ -20,7 +20,7 @@ use tk_early::task_words;
 use tk_types::{Child, Facts, PipelineTask, SkipReason, Stop, TaskBody, Verdict};
 
 /// Whether all tasks with these labels are done.
-pub(crate) fn are_all_done(labels: &[Verdict]) -> bool
+pub fn are_all_done(labels: &[Verdict]) -> bool
     ensures { result ≡ list_all is_done_label labels.now }
 {
     labels.iter().all(|label| is_done(*label))
@@ -37,7 +37,7 @@ fn is_late(stop: Stop) -> bool
 }
 
 /// The first stop that reaches the tasks of `finally`.
-fn late_stop(facts: &Facts) -> Option<Stop>
+pub fn late_stop(facts: &Facts) -> Option<Stop>
     ensures { result ≡ first_late_stop facts.now }
 {
     for stop in facts.stops.as_slice() {
@@ -48,8 +48,9 @@ fn late_stop(facts: &Facts) -> Option<Stop>
     None
 }
 
-/// The label of a task of `finally`, as its texts stand in an environment, once all of `tasks` are done.
-fn due_label(
+/// The label of a task of `finally`, as its texts stand in an environment, once all of `tasks` are done. The only error is
+/// want of memory.
+pub fn due_label(
     alloc: Global,
     lookup: &Lookup,
     children: &[&Child],
@@ -77,8 +78,9 @@ fn due_label(
     )
 }
 
-/// The label of a task of `finally`, as its texts stand in an environment, before all of `tasks` are done.
-fn early_label(
+/// The label of a task of `finally`, as its texts stand in an environment, before all of `tasks` are done. The only error is
+/// want of memory.
+pub fn early_label(
     alloc: Global,
     lookup: &Lookup,
     children: &[&Child],

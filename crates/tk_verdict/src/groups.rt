@@ -9,7 +9,7 @@ use tk_types::Child;
 
 /// The children of each task, in the order of the facts. A contract sees all children.
 #[derive(Drop)]
-pub(crate) struct Groups<'a> {
+pub struct Groups<'a> {
     children: &'a [Child],
     groups: Vec<Vec<&'a Child>>,
 }
@@ -28,12 +28,8 @@ impl<'a> Model for Groups<'a> {
 }
 
 impl<'a> Groups<'a> {
-    /// The children of each of so many tasks, in one pass.
-    pub(crate) fn new(
-        alloc: Global,
-        total: usize,
-        children: &'a [Child],
-    ) -> Result<Self, AllocError>
+    /// The children of each of so many tasks, in one pass. The only error is want of memory.
+    pub fn new(alloc: Global, total: usize, children: &'a [Child]) -> Result<Self, AllocError>
         requires exist { IsTrue (list_all (λ (c : ChildRecord). nat_lt c.task total) children.now) }
         ensures { IfOk result (λ groups. groups ≡ children.now) }
     {
@@ -44,7 +40,7 @@ impl<'a> Groups<'a> {
     }
 
     /// The children of the task at a place.
-    pub(crate) fn at(&self, place: u32) -> &[&'a Child]
+    pub fn at(&self, place: u32) -> &[&'a Child]
         ensures { map (λ child. child.now) result.now ≡ children_at self.now place }
     {
         let place = place as usize;

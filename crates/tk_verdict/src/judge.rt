@@ -53,8 +53,9 @@ fn with_children(
 }
 
 /// The label of a task with these children: of its combinations where they are defined, the reason of its first row where
-/// one holds, the stop that reaches it, and the label that is left without children, reason and stop.
-pub(crate) fn label_by(
+/// one holds, the stop that reaches it, and the label that is left without children, reason and stop. The only error is want
+/// of memory.
+pub fn label_by(
     alloc: Global,
     children: &[&Child],
     combinations: &Option<List<List<Param>>>,

@@ -20,6 +20,7 @@ mod good;
 mod groups;
 mod guards;
 mod judge;
+pub mod judging;
 mod label;
 mod labels;
 pub mod laws;

@@ -24,7 +24,7 @@ fn lack(alloc: Global, lookup: &Lookup, texts: &[&Text]) -> Result<bool, AllocEr
 }
 
 /// Whether a result to which the task refers isn't available. The only error is want of memory.
-pub(crate) fn lacks_any_result(
+pub fn lacks_any_result(
     alloc: Global,
     lookup: &Lookup,
     task: &PipelineTask,

@@ -14,13 +14,13 @@ use tk_types::{List, Param, PipelineTask, SkipReason, TaskBody, When};
 /// What the own texts of a task give: its `when` expressions, where each reference in them has a value, and its
 /// combinations.
 #[derive(Drop)]
-pub(crate) struct Own {
+pub struct Own {
     pub guards: Option<List<When>>,
     pub combined: Combined,
 }
 
 /// What the own texts of a task give. The only error is want of memory.
-pub(crate) fn own_of(alloc: Global, lookup: &Lookup, task: &PipelineTask) -> Result<Own, AllocError>
+pub fn own_of(alloc: Global, lookup: &Lookup, task: &PipelineTask) -> Result<Own, AllocError>
     requires { ReadsTask task.now }
     ensures { IfOk result (λ own. own ≡ own_in lookup.now task.now) }
 {
@@ -68,11 +68,7 @@ fn is_refused(own: &Own) -> bool
 }
 
 /// Why the own texts of a task skip it, where they do. The only error is want of memory.
-pub(crate) fn own_row(
-    alloc: Global,
-    body: &TaskBody,
-    own: &Own,
-) -> Result<Option<SkipReason>, AllocError>
+pub fn own_row(alloc: Global, body: &TaskBody, own: &Own) -> Result<Option<SkipReason>, AllocError>
     requires { ReadsBody body.now }
     ensures { IfOk result (λ row. row ≡ row_by body.now own.now) }
 {

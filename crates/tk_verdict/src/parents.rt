@@ -14,7 +14,7 @@ use tk_graph::result_tasks;
 use tk_types::{Facts, PipelineTask, Text, Verdict};
 
 /// The label at a place.
-pub(crate) fn label_at(labels: &[Verdict], place: u32) -> Verdict
+pub fn label_at(labels: &[Verdict], place: u32) -> Verdict
     ensures { result ≡ label_of_place labels.now place }
 {
     labels
@@ -24,7 +24,7 @@ pub(crate) fn label_at(labels: &[Verdict], place: u32) -> Verdict
 }
 
 /// Whether a parent is skipped so that its children are too.
-pub(crate) fn is_blocked(parents: &[u32], labels: &[Verdict]) -> bool
+pub fn is_blocked(parents: &[u32], labels: &[Verdict]) -> bool
     ensures { result ≡ list_any (λ p. blocks_children (label_of_place labels.now p)) parents.now }
 {
     parents.iter().any(|place| blocks(label_at(labels, *place)))
@@ -82,8 +82,8 @@ fn is_named(facts: &Facts, names: &FirstNamed<Text>, place: u32) -> bool
     }
 }
 
-/// Whether a parent is skipped to whose results the task refers.
-pub(crate) fn lacks_result(
+/// Whether a parent is skipped to whose results the task refers. The only error is want of memory.
+pub fn lacks_result(
     alloc: Global,
     facts: &Facts,
     labels: &[Verdict],

@@ -133,7 +133,7 @@ fn push_status_words(
 }
 
 /// The status variables that a task of `finally` sees, with these labels of `tasks`. The only error is want of memory.
-pub(crate) fn status_words(
+pub fn status_words(
     alloc: Global,
     facts: &Facts,
     groups: &Groups,
