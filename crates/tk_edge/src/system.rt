@@ -7,8 +7,8 @@ use std::time::{Clock as Time, Duration};
 /// 9999-12-31T23:59:59.999Z in milliseconds since 1970-01-01 UTC.
 pub const LAST_MOMENT: u64 = 253_402_300_799_999;
 
-/// How long a clock of the system rests.
-const REST: u64 = 10;
+/// How many microseconds a clock of the system rests.
+const REST: u64 = 100;
 
 /// The next reading, where the system gives this time in milliseconds: the last one again where it gives none, an earlier
 /// one or one over the limit.
@@ -58,6 +58,6 @@ impl<C: Time> Clock for SystemClock<C> {
     }
 
     fn rest(&mut self) {
-        self.time.sleep(Duration::from_millis(REST));
+        self.time.sleep(Duration::from_micros(REST));
     }
 }
