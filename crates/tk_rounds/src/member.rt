@@ -20,8 +20,8 @@ pub trait Member {
     /// What stands of the member since a start, over this history.
     ghost follows: { Self → Self → List AnEntry → Type 0 };
 
-    /// A turn: the gate is asked, and the rest follows. It answers whether the member may have more to do: it wrote an entry,
-    /// or its cache moved. The only error is want of memory.
+    /// A turn: the gate is asked, with the lag of this moment, and the rest follows. It answers whether the member may have
+    /// more to do: it wrote an entry, or its cache moved. The only error is want of memory.
     fn take_turn(&mut self, alloc: Global, store: &mut Store) -> Result<bool, AllocError>
         requires ready { ready store.old.history self.old }
         ensures legal { IsLegal store.new.history }

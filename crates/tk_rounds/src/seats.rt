@@ -6,12 +6,13 @@ ghost use Rattle.tk_rounds.specs.Members.{of_controller, of_kubelet};
 
 use crate::bench::{Controller, Node};
 use crate::member::Member;
+use crate::moving::lag_of;
 use std::alloc::{AllocError, Global};
 use tk_edge::{Clock, Gate, GateTurn, Host};
 use tk_held::laws::legal_is_planned;
 use tk_store::Store;
 
-/// Whether a member that took such a turn may have more to do.
+/// Whether a member that took such a turn may have more to do: it wrote an entry, or its cache moved.
 fn goes_on(given: GateTurn, wrote: bool) -> bool {
     match given {
         GateTurn::Deliver { .. } | GateTurn::Relist { .. } => true,
@@ -30,6 +31,7 @@ impl<K: Clock, G: Gate> Member for Controller<K, G> {
     ghost follows = { ControllerFollows G.answers K.readings K.last };
 
     fn take_turn(&mut self, alloc: Global, store: &mut Store) -> Result<bool, AllocError> {
+        self.lag = lag_of(&self.cache, store.journal());
         let given = self.next();
         let wrote = self.turn(alloc, given, store);
         store.legal();
@@ -51,6 +53,7 @@ impl<K: Clock, H: Host, G: Gate> Member for Node<K, H, G> {
     fn take_turn(&mut self, alloc: Global, store: &mut Store) -> Result<bool, AllocError> {
         legal_is_planned();
         store.legal();
+        self.lag = lag_of(&self.cache, store.journal());
         let given = self.next();
         let wrote = self.turn(alloc, given, store);
         store.legal();
