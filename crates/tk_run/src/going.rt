@@ -1,8 +1,11 @@
-ghost use Rattle.std.specs.Prelude.{◌≡◌, ◌≤◌, ◌↔◌, ℕ, length, IfOk, OnOk, IsTrue};
+ghost use Rattle.std.specs.Prelude.{◌≡◌, ◌<◌, ◌≤◌, ◌+◌, ◌^◌, ◌⊎◌, ◌↔◌, ℕ, length, IfOk, OnOk, IsTrue};
 ghost use Rattle.tk_cache.specs.Fronts.{Shows};
 ghost use Rattle.tk_cache.specs.Views.{seen};
 ghost use Rattle.tk_journal.specs.Legal.{IsLegal};
 ghost use Rattle.tk_journal.specs.Progress.{IsOpen};
+ghost use Rattle.tk_rounds.specs.Bench.{AllFollow, AllReady, ControllerFollows, IsReadyController, IsReadyNode, NodeFollows, controller_number, node_number};
+ghost use Rattle.tk_rounds.specs.Growth.{GrowsBy, OfOne};
+ghost use Rattle.tk_rounds.specs.Members.{of_controller, of_kubelet};
 ghost use Rattle.tk_run.specs.Asks.{AreTried, IsEachTried};
 ghost use Rattle.tk_run.specs.Going.{GoesOn, IsReady};
 
@@ -11,7 +14,7 @@ use std::alloc::{AllocError, Global};
 use std::sync::Wait;
 use tk_cache::Cache;
 use tk_edge::{Clock, Gate, Host};
-use tk_rounds::{Bench, Controller, Member, Node, serial_round};
+use tk_rounds::{Bench, Controller, Member, Node, RoundEnd, node_round, serial_round};
 use tk_store::Store;
 use tk_world::{deliver_all, is_open};
 
@@ -49,13 +52,42 @@ fn ask<K: Clock, H: Host, G: Gate>(
     ask_due(alloc, &mut bench.user, words, asking, store)
 }
 
-/// A round of the bench, and by how many entries the journal grew. The only error is want of memory.
+/// A round of all members of the bench, or of the nodes alone. The only error is want of memory.
+fn some_round<K: Clock, H: Host, G: Gate>(
+    alloc: Global,
+    bench: &mut Bench<K, H, G>,
+    store: &mut Store,
+    is_whole: bool,
+) -> Result<RoundEnd, AllocError>
+    requires sizes { (length bench.old.controllers.items < 2 ^ 32) × (length bench.old.kubelets.items < 2 ^ 32) }
+    requires controllers { AllReady controller_number IsReadyController store.old.history bench.old.controllers.items }
+    requires nodes { AllReady node_number (IsReadyNode H.told H.killed) store.old.history bench.old.kubelets.items }
+    ensures legal { IsLegal store.new.history }
+    ensures controllers { AllReady controller_number IsReadyController store.new.history bench.new.controllers.items }
+    ensures nodes { AllReady node_number (IsReadyNode H.told H.killed) store.new.history bench.new.kubelets.items }
+    ensures counts { (length bench.new.controllers.items ≡ length bench.old.controllers.items) × (length bench.new.kubelets.items ≡ length bench.old.kubelets.items) }
+    ensures user { bench.new.user ≡ bench.old.user }
+    ensures wrote { IfOk result (λ end. length store.new.history ≡ length store.old.history + end.wrote) }
+    ensures grows { GrowsBy (λ e. OfOne of_controller (length bench.old.controllers.items) e ⊎ OfOne of_kubelet (length bench.old.kubelets.items) e) store.old.history store.new.history }
+    ensures controllers_follow { AllFollow (ControllerFollows G.answers K.readings K.last) bench.old.controllers.items bench.new.controllers.items store.old.history store.new.history }
+    ensures nodes_follow { AllFollow (NodeFollows G.answers K.readings K.last H.told H.faults) bench.old.kubelets.items bench.new.kubelets.items store.old.history store.new.history }
+{
+    if is_whole {
+        serial_round(bench, alloc, store)
+    } else {
+        node_round(bench, alloc, store)
+    }
+}
+
+/// A round of the bench, of the nodes alone or of all members, and by how many entries the journal grew. The only error is
+/// want of memory.
 fn round<K: Clock, H: Host, G: Gate>(
     alloc: Global,
     bench: &mut Bench<K, H, G>,
     words: &[AskWord],
     asking: &Asking,
     store: &mut Store,
+    is_whole: bool,
 ) -> Result<u64, AllocError>
     requires ready { IsReady H.told H.killed store.old.history bench.old }
     ensures legal { IsLegal store.new.history }
@@ -63,18 +95,28 @@ fn round<K: Clock, H: Host, G: Gate>(
     ensures goes { GoesOn G.answers K.readings K.last H.told H.faults bench.old bench.new store.old.history store.new.history }
     ensures asks { (since : ℕ) → AreTried since words.now asking.now.tried.items store.old.history → AreTried since words.now asking.now.tried.items store.new.history }
 {
-    let end = serial_round(bench, alloc, store);
+    let end = some_round(alloc, bench, store, is_whole);
     store.legal();
     Ok(end?.wrote)
 }
 
-/// What is due is asked, and a round follows. The only error is want of memory.
+/// How many rounds in a row that come to nothing go by until the controllers look again.
+const LOOKS: u64 = 8;
+
+/// Whether the controllers take part in a round behind so many that came to nothing. Where no node wrote an entry and
+/// nothing was asked, only a timeout can give them something to do, so they look now and then.
+fn is_whole(idle: u64) -> bool {
+    idle % LOOKS == 0
+}
+
+/// What is due is asked, and a round follows, of all members where something was asked. The only error is want of memory.
 fn go_on<K: Clock, H: Host, G: Gate>(
     alloc: Global,
     bench: &mut Bench<K, H, G>,
     words: &[AskWord],
     asking: &mut Asking,
     store: &mut Store,
+    idle: u64,
 ) -> Result<u64, AllocError>
     requires ready { IsReady H.told H.killed store.old.history bench.old }
     requires count { length asking.old.tried.items ≡ length words.now }
@@ -85,8 +127,17 @@ fn go_on<K: Clock, H: Host, G: Gate>(
     ensures goes { GoesOn G.answers K.readings K.last H.told H.faults bench.old bench.new store.old.history store.new.history }
     ensures asks { (since : ℕ) → since ≤ asking.old.start → AreTried since words.now asking.old.tried.items store.old.history → AreTried since words.now asking.new.tried.items store.new.history }
 {
+    let before = store.journal().len();
     ask(alloc, bench, words, asking, store)?;
-    round(alloc, bench, words, asking, store)
+    let has_asked = store.journal().len() > before;
+    round(
+        alloc,
+        bench,
+        words,
+        asking,
+        store,
+        has_asked || is_whole(idle),
+    )
 }
 
 /// Whether each word was tried, and no run that isn't pending is open. The only error is want of memory.
@@ -143,7 +194,7 @@ pub(crate) fn rounds<T: Wait, K: Clock, H: Host, G: Gate>(
 {
     let mut idle = 0u64;
     for _ in rt.forever() {
-        let wrote = go_on(alloc, bench, words, asking, store)?;
+        let wrote = go_on(alloc, bench, words, asking, store, idle)?;
         idle = idle_after(idle, wrote);
         if idle > 0 {
             if is_over(asking, watch, store)? {
