@@ -2,4 +2,8 @@
 #![tactic(auto)]
 
 #[cfg(test)]
+mod benches;
+#[cfg(test)]
+mod gate_tests;
+#[cfg(test)]
 mod run_tests;

@@ -20,6 +20,7 @@ mod output;
 #[cfg(test)]
 mod outside_tests;
 mod plain;
+mod remembering;
 #[cfg(test)]
 mod rule_tests;
 mod run_words;
@@ -30,11 +31,15 @@ mod simulate_tests;
 #[cfg(test)]
 mod tests;
 mod top;
+#[cfg(test)]
+mod top_tests;
 
+use remembering::Remembering;
 use std::alloc::{AllocError, Global};
 use std::process::ExitCode;
 use std::sync::Wait;
 use std::{env, io};
+use tk_advice::advice;
 use tk_edge::{Fresh, Host, ReadSource, RealHost, SystemClock, WriteSink};
 use tk_rounds::{Bench, Controller, Node};
 use tk_types::{List, Text};
@@ -120,36 +125,47 @@ fn bench<'a>(
     })
 }
 
-/// Carries out the words, and gives the status.
-fn run<T: Wait>(rt: &HostRuntime, wait: &T) -> u8 {
+/// What to say of an input at fault, by the line that was printed.
+fn advice_of(alloc: Global, printed: &[u8]) -> Option<String> {
+    match std::str::from_utf8(printed) {
+        Ok(line) => advice(alloc, line).unwrap_or(None),
+        Err(_) => None,
+    }
+}
+
+/// Carries out the words, and gives the status, and what else to say where an input is at fault.
+fn run<T: Wait>(rt: &HostRuntime, wait: &T) -> (u8, Option<String>) {
     let alloc = rt.alloc();
-    match words(rt, alloc) {
-        Ok(words) => {
-            let mut input = ReadSource::new(rt.reader());
-            let mut sink = WriteSink::new(io::writer(rt));
-            match bench(rt, alloc) {
-                Ok(mut bench) => {
-                    tkn(
-                        wait,
-                        alloc,
-                        words.as_slice(),
-                        &mut input,
-                        &mut sink,
-                        &mut bench,
-                    )
-                    .status
-                }
-                Err(_) => 6,
-            }
-        }
-        Err(error) => status_of(error),
+    let words = match words(rt, alloc) {
+        Ok(words) => words,
+        Err(error) => return (status_of(error), None),
+    };
+    let Ok(mut bench) = bench(rt, alloc) else {
+        return (6, None);
+    };
+    let mut input = ReadSource::new(rt.reader());
+    let mut sink = Remembering::new(alloc, WriteSink::new(io::writer(rt)));
+    let ended = tkn(
+        wait,
+        alloc,
+        words.as_slice(),
+        &mut input,
+        &mut sink,
+        &mut bench,
+    );
+    match ended.status {
+        3 => (3, advice_of(alloc, sink.front())),
+        status => (status, None),
     }
 }
 
 fn main(rt: HostRuntime) -> ExitCode {
-    let status = run(&rt, &rt);
+    let (status, advice) = run(&rt, &rt);
     if let Some(message) = message(status) {
         let _ = eprintln!(rt; "{message}");
+    }
+    if let Some(advice) = advice {
+        let _ = eprintln!(rt; "tkn: {advice}");
     }
     ExitCode::from(status)
 }

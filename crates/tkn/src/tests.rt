@@ -93,7 +93,7 @@ pub(crate) fn list(alloc: Global, items: &[&str], last: &str) -> Result<Bytes, A
     quoted(alloc, text.as_str())
 }
 
-fn bytes(alloc: Global, text: &str) -> Result<Bytes, AllocError> {
+pub(crate) fn bytes(alloc: Global, text: &str) -> Result<Bytes, AllocError> {
     Ok(Bytes::from_vec(Vec::from_slice(alloc, text.as_bytes())?))
 }
 

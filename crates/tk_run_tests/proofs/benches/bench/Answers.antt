@@ -1,7 +1,7 @@
 use Rattle.std.proofs.Common.{[], ◌∷◌, ◌++◌, ◌∙◌, ap}
 use Rattle.tk_run.specs.Begun.{IsNewController, IsNewNode}
 use Rattle.tk_run_tests.proofs.Alone.{alone, some_alone}
-use Rattle.tk_run_tests.proofs.run_tests.bench.Goals as goal
+use Rattle.tk_run_tests.proofs.benches.bench.Goals as goal
 
 pub returns : goal.returns
 returns g c =

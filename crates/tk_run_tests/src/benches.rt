@@ -1,0 +1,79 @@
+//! Benches in memory, and what is told of runs on them.
+
+ghost use Rattle.std.specs.Prelude.{◌≡◌, IfOk, OnOk};
+ghost use Rattle.tk_journal.specs.Legal.{IsLegal};
+ghost use Rattle.tk_run.specs.Begun.{IsNewBench, IsNewController, IsNewNode};
+
+use std::alloc::{AllocError, Global};
+use tk_edge::{Gate, Host, ManualClock};
+use tk_report::report;
+use tk_rounds::{Bench, Controller, Node};
+use tk_run::{AskWord, Ran};
+use tk_script::{PodScript, ScriptHost};
+use tk_types::{Asked, List, Text};
+
+/// A controller over a clock that stands still.
+fn controller<G: Gate + Drop>(alloc: Global, gate: G) -> Controller<ManualClock, G>
+    ensures { IsNewController result }
+{
+    Controller::new(alloc, ManualClock::new(alloc), gate)
+}
+
+/// A node over such a clock and a host that plays these scripts, in which other steps end with the exit 0, and whose calls of
+/// these numbers fail.
+fn node<G: Gate + Drop>(
+    alloc: Global,
+    gate: G,
+    scripts: List<PodScript>,
+    failing: List<u64>,
+) -> Result<Node<ManualClock, ScriptHost, G>, AllocError>
+    ensures { IfOk result (IsNewNode (⟦<ScriptHost as Host>⟧.told)) }
+{
+    let root = Text::from_str(alloc, "/work")?;
+    let host = ScriptHost::new(alloc, root, scripts, failing)?;
+    Ok(Node::new(alloc, ManualClock::new(alloc), host, gate))
+}
+
+/// One controller and one node, with these gates, over such a host.
+pub(crate) fn bench<G: Gate + Drop>(
+    alloc: Global,
+    one: G,
+    other: G,
+    scripts: List<PodScript>,
+    failing: List<u64>,
+) -> Result<Bench<ManualClock, ScriptHost, G>, AllocError>
+    ensures { IfOk result (IsNewBench (⟦<ScriptHost as Host>⟧.told)) }
+{
+    let mut controllers = Vec::new(alloc);
+    controllers.push(controller(alloc, one))?;
+    let mut kubelets = Vec::new(alloc);
+    kubelets.push(node(alloc, other, scripts, failing)?)?;
+    Ok(Bench {
+        controllers,
+        kubelets,
+        user: ManualClock::new(alloc),
+    })
+}
+
+/// What is asked at once.
+pub(crate) fn asked(alloc: Global, asks: &[(&str, Asked)]) -> Result<Vec<AskWord>, AllocError> {
+    let mut words = Vec::new(alloc);
+    for (run, status) in asks {
+        words.push(AskWord {
+            run: Text::from_str(alloc, run)?,
+            status: *status,
+            delay: 0,
+        })?;
+    }
+    Ok(words)
+}
+
+/// The report of a run that came to its end, or nothing.
+pub(crate) fn told(alloc: Global, ran: &Ran) -> Result<Text, AllocError>
+    requires legal { OnOk ran.now.end (IsLegal ran.now.journal.history) }
+{
+    match &ran.end {
+        Ok(()) => report(alloc, &ran.journal),
+        Err(_) => Ok(Text::new(alloc)),
+    }
+}

@@ -1,0 +1,6 @@
+pub mod Claims
+pub mod Views
+pub mod Turns
+pub mod Rule
+pub mod Lending
+pub mod Sample
