@@ -1,9 +1,16 @@
-//! What is said to people beside the line of a fault: what is wrong, and what to do. It promises nothing but to return; tests
-//! show each sentence.
+//! What is said to people beside a status: of words that are no command, how the commands are called; of an input at fault,
+//! what is wrong and what to do. It promises nothing but to return; tests show each sentence.
 #![tactic(auto)]
 
+mod input;
+#[cfg(test)]
+mod input_tests;
 mod sentences;
 #[cfg(test)]
 mod sentences_tests;
+mod words;
+#[cfg(test)]
+mod words_tests;
 
-pub use sentences::advice;
+pub use input::advice;
+pub use words::{USAGE, complaint};

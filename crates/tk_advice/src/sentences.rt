@@ -3,9 +3,7 @@ use std::alloc::{AllocError, Global};
 /// What is wrong with an input of which a fault of this number is the first, and what to do.
 fn sentence(number: &str) -> Option<&'static str> {
     match number {
-        "1" => Some(
-            "the input isn't one JSON value; mend it, or convert YAML first, for example with `yq -o json`",
-        ),
+        "1" => Some("the input isn't one JSON value; mend it"),
         "2" => Some(
             "this value has another form than its field takes; the Tekton documentation has the field's type",
         ),
@@ -15,9 +13,7 @@ fn sentence(number: &str) -> Option<&'static str> {
         "4" => Some(
             "this kind isn't read; the kinds are PipelineRun, Pipeline, TaskRun, Task, Outcomes, Scenario, and a List of these",
         ),
-        "5" => Some(
-            "the last key of the place is missing; add it, and where the place is `$` alone, a PipelineRun and an Outcomes object, which `decide` needs",
-        ),
+        "5" => Some("the last key of the place is missing; add it"),
         "6" => Some("there is no such field; correct its spelling or remove it"),
         "7" => Some("this field of Tekton isn't carried out here; remove it"),
         "8" => Some(
@@ -65,21 +61,32 @@ fn sentence(number: &str) -> Option<&'static str> {
     }
 }
 
-/// What to say of a line `rejected NUMBER NAME` with its place and details: a sentence in plain words, and behind it the place
-/// and the details as they stand in the line. Of other lines there is nothing to say. The only error is want of memory.
-pub fn advice(alloc: Global, line: &str) -> Result<Option<String>, AllocError> {
-    let Some(told) = line.trim_end().strip_prefix("rejected ") else {
-        return Ok(None);
+/// A line `rejected NUMBER NAME`, with a place and details behind it where there are any.
+#[derive(Clone, Copy, Debug, PartialEq, Eq)]
+pub(crate) struct Line<'a> {
+    pub(crate) number: &'a str,
+    pub(crate) place: Option<&'a str>,
+}
+
+/// The parts of such a line, and None of other lines.
+pub(crate) fn parts(line: &str) -> Option<Line<'_>> {
+    let told = line.trim_end().strip_prefix("rejected ")?;
+    let (number, named) = told.split_once(' ')?;
+    let place = match named.split_once(' ') {
+        Some((_, place)) => Some(place),
+        None => None,
     };
-    let (number, named) = match told.split_once(' ') {
-        Some(halves) => halves,
-        None => return Ok(None),
-    };
-    let Some(sentence) = sentence(number) else {
+    Some(Line { number, place })
+}
+
+/// What to say of such a line: a sentence in plain words, and behind it the place and the details as they stand in the line.
+/// The only error is want of memory.
+pub(crate) fn said_of(alloc: Global, line: Line<'_>) -> Result<Option<String>, AllocError> {
+    let Some(sentence) = sentence(line.number) else {
         return Ok(None);
     };
     let mut said = String::from_str(alloc, sentence)?;
-    if let Some((_, place)) = named.split_once(' ') {
+    if let Some(place) = line.place {
         said.push_str(": ")?;
         said.push_str(place)?;
     }

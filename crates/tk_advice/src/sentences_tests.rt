@@ -1,4 +1,4 @@
-use crate::sentences::advice;
+use crate::advice;
 use std::alloc::AllocError;
 
 /// A line, and the beginning and the end of what is said of it.
@@ -6,7 +6,7 @@ const ROWS: [(&str, &str, &str); 24] = [
     (
         "rejected 1 BadJson\n",
         "the input isn't one JSON value",
-        "`yq -o json`",
+        "; mend it",
     ),
     (
         "rejected 2 WrongShape $.spec\n",
@@ -116,7 +116,7 @@ const ROWS: [(&str, &str, &str); 24] = [
 #[test]
 fn each_fault_has_its_sentence(rt: HostRuntime) -> Result<(), AllocError> {
     for (line, front, end) in ROWS {
-        let said = advice(rt.alloc(), line)?;
+        let said = advice(rt.alloc(), line, b"{}")?;
         let said = said.as_deref().unwrap_or("");
         assert!(rt; said.starts_with(front), "{line}");
         assert!(rt; said.ends_with(end), "{line}");

@@ -7,7 +7,7 @@ use tk_journal::{Act, Fronts, Journal};
 use tk_types::Kind;
 
 /// Whether an entry's object is of this kind.
-pub(crate) fn is_of(kind: Kind, act: &Act) -> bool
+pub fn is_of(kind: Kind, act: &Act) -> bool
     ensures { result ≡ same_kind kind (kind_of act.now) }
 {
     match (kind, act.kind()) {
@@ -18,7 +18,7 @@ pub(crate) fn is_of(kind: Kind, act: &Act) -> bool
 }
 
 /// A kind's front.
-pub(crate) fn front_of(kind: Kind, fronts: Fronts) -> u64
+pub fn front_of(kind: Kind, fronts: Fronts) -> u64
     ensures { result ≡ front_of kind fronts }
 {
     match kind {
@@ -29,7 +29,7 @@ pub(crate) fn front_of(kind: Kind, fronts: Fronts) -> u64
 }
 
 /// A kind's front after so many entries more.
-pub(crate) fn next_front(journal: &Journal, kind: Kind, n: u64, front: u64) -> u64
+pub fn next_front(journal: &Journal, kind: Kind, n: u64, front: u64) -> u64
     requires within { front ≤ length journal.now.history }
     ensures value { result ≡ next_front kind n front journal.now.history }
     ensures order { front ≤ result }

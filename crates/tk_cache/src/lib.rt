@@ -10,3 +10,4 @@ mod objects;
 mod reads;
 
 pub use cache::Cache;
+pub use front::{front_of, is_of, next_front};

@@ -10,6 +10,7 @@ use std::alloc::Global;
 use tk_cache::Cache;
 use tk_edge::{Clock, Gate, GateTurn, Host};
 use tk_kubelet::Kubelet;
+use tk_run_cache::RunCache;
 use tk_types::Text;
 
 /// A run worker and a task worker over one cache. Both have its number.
@@ -17,7 +18,7 @@ use tk_types::Text;
 pub struct Controller<K, G> {
     pub clock: K,
     pub gate: G,
-    pub cache: Cache,
+    pub cache: RunCache,
     /// How many entries of the journal the cache lacked when the controller last held the store.
     pub lag: u64,
     pub number: u32,
@@ -54,7 +55,7 @@ impl<K: Clock, G: Gate> Controller<K, G> {
         Controller {
             clock,
             gate,
-            cache: Cache::empty(alloc),
+            cache: RunCache::empty(alloc),
             lag: 0,
             number: 0,
         }

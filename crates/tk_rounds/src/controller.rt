@@ -7,10 +7,10 @@ ghost use Rattle.tk_rounds.specs.Turning.{ControllerTook, ControllerWorks, IsTur
 ghost use Rattle.tk_store.specs.declared.turn.Turn.TheVariants as turns;
 
 use crate::bench::Controller;
-use crate::moving::{lag_of, move_cache};
+use crate::moving::{lag_of, move_run_cache};
 use std::alloc::{AllocError, Global};
-use tk_cache::Cache;
 use tk_edge::{Clock, Gate, GateTurn};
+use tk_run_cache::RunCache;
 use tk_runrec::RunWorker;
 use tk_store::{Store, Turn};
 use tk_taskrec::TaskWorker;
@@ -20,7 +20,7 @@ use tk_taskrec::TaskWorker;
 fn work(
     alloc: Global,
     number: u32,
-    cache: &Cache,
+    cache: &RunCache,
     store: &mut Store,
     moment: u64,
 ) -> Result<Turn, AllocError>
@@ -29,7 +29,7 @@ fn work(
     ensures err { OnErr result (store.new ≡ store.old) }
 {
     match RunWorker::new(number).turn(alloc, cache, store, moment)? {
-        Turn::Idle => TaskWorker::new(number).turn(alloc, cache, store, moment),
+        Turn::Idle => TaskWorker::new(number).turn(alloc, cache.cache(), store, moment),
         turn => Ok(turn),
     }
 }
@@ -73,7 +73,7 @@ impl<K: Clock, G: Gate> Controller<K, G> {
             GateTurn::Work => self.work(alloc, store),
             _ => {
                 store.legal();
-                move_cache(&mut self.cache, store.journal(), given)?;
+                move_run_cache(&mut self.cache, store.journal(), given)?;
                 Ok(false)
             }
         }
@@ -97,7 +97,7 @@ impl<K: Clock, G: Gate> Controller<K, G> {
         ensures err { OnErr result (store.new ≡ store.old) }
     {
         let wrote = self.act(alloc, given, store);
-        self.lag = lag_of(&self.cache, store.journal());
+        self.lag = lag_of(self.cache.cache(), store.journal());
         wrote
     }
 }

@@ -31,7 +31,7 @@ impl<K: Clock, G: Gate> Member for Controller<K, G> {
     ghost follows = { ControllerFollows G.answers K.readings K.last };
 
     fn take_turn(&mut self, alloc: Global, store: &mut Store) -> Result<bool, AllocError> {
-        self.lag = lag_of(&self.cache, store.journal());
+        self.lag = lag_of(self.cache.cache(), store.journal());
         let given = self.next();
         let wrote = self.turn(alloc, given, store);
         store.legal();

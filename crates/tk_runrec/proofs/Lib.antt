@@ -1,5 +1,4 @@
 pub mod Bare
-pub mod Growing
 pub mod Meaning
 pub mod Labelled
 pub mod Listed
@@ -12,3 +11,4 @@ pub mod Fit
 pub mod Earliest
 pub mod Chosen
 pub mod Shown
+pub mod Missing

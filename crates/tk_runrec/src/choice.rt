@@ -3,12 +3,12 @@ ghost use Rattle.tk_verdict.specs.Labels.{labels_of};
 ghost use Rattle.tk_journal.specs.RunRows.{facts_in};
 ghost use Rattle.tk_choice.specs.First.{first_act};
 ghost use Rattle.tk_cache.specs.Views.{seen};
+ghost use Rattle.tk_run_cache.specs.Labelled.{missing_in};
 ghost use Rattle.tk_runrec.specs.Choice.{seen_children, start as start_row, table, plain_act, open_act, act_of, act_named, choice};
 ghost use Rattle.tk_runrec.specs.Fit.{IsFit, AreFit};
 ghost use Rattle.tk_runrec.specs.Tests.{starts_ready};
 
 use crate::cancel::cancel;
-use crate::children::{children_seen, facts_with};
 use crate::close::close;
 use crate::halt::halt;
 use crate::make::make;
@@ -17,8 +17,9 @@ use crate::stops::is_startable;
 use std::alloc::{AllocError, Global};
 use tk_cache::Cache;
 use tk_journal::{Act, RunState};
+use tk_labels::Labels;
+use tk_run_cache::RunCache;
 use tk_types::{Child, Text, Verdict};
-use tk_verdict::Decision;
 
 /// The row Start.
 fn start(alloc: Global, name: &str, run: &RunState) -> Result<Option<Act>, AllocError>
@@ -38,9 +39,9 @@ fn without_labels(
     cache: &Cache,
     name: &str,
     run: &RunState,
-    children: &[Child],
+    bare: &[Child],
 ) -> Result<Option<Act>, AllocError>
-    requires children { children.now ≡ seen_children (seen cache.now).view run.now }
+    requires bare { bare.now ≡ missing_in (seen cache.now).view run.now }
     ensures { IfOk result (λ act. act ≡ plain_act (seen cache.now).view name.now run.now) }
 {
     if let Some(act) = start(alloc, name, run)? {
@@ -49,7 +50,7 @@ fn without_labels(
     if let Some(act) = cancel(alloc, cache, name, run)? {
         return Ok(Some(act));
     }
-    make(alloc, cache, name, run, children)
+    make(alloc, cache, name, run, bare)
 }
 
 /// All rows of an open run, in order.
@@ -60,53 +61,27 @@ fn by_labels(
     name: &str,
     run: &RunState,
     children: &[Child],
-    decision: &Decision,
+    bare: &[Child],
+    kept: &Labels,
     labels: &[Verdict],
 ) -> Result<Option<Act>, AllocError>
     requires fit { IsFit (seen cache.now).view run.now }
     requires children { children.now ≡ seen_children (seen cache.now).view run.now }
-    requires facts { decision.now ≡ facts_in (seen cache.now).view run.now }
-    requires labels { labels.now ≡ labels_of decision.now }
+    requires bare { bare.now ≡ missing_in (seen cache.now).view run.now }
+    requires facts { kept.now ≡ facts_in (seen cache.now).view run.now }
+    requires labels { labels.now ≡ labels_of kept.now }
     ensures { IfOk result (λ act. act ≡ first_act (table (seen cache.now).view moment name.now run.now labels.now)) }
 {
-    if let Some(act) = close(alloc, cache, name, run, children, decision, labels)? {
+    if let Some(act) = close(alloc, cache, name, run, children, kept, labels)? {
         return Ok(Some(act));
     }
     if let Some(act) = halt(alloc, moment, name, run, children, labels)? {
         return Ok(Some(act));
     }
-    if let Some(act) = without_labels(alloc, cache, name, run, children)? {
+    if let Some(act) = without_labels(alloc, cache, name, run, bare)? {
         return Ok(Some(act));
     }
-    schedule(alloc, cache, name, run, children, decision, labels)
-}
-
-/// Of an open run whose labels are asked for: facts, decision and labels are made once.
-fn labelled(
-    alloc: Global,
-    cache: &Cache,
-    moment: u64,
-    name: &str,
-    run: &RunState,
-    children: Vec<Child>,
-) -> Result<Option<Act>, AllocError>
-    requires fit { IsFit (seen cache.now).view run.now }
-    requires children { children.items ≡ seen_children (seen cache.now).view run.now }
-    ensures { IfOk result (λ act. act ≡ open_act (seen cache.now).view moment name.now run.now) }
-{
-    let facts = facts_with(alloc, run, children)?;
-    let decision = Decision::new(alloc, &facts)?;
-    let labels = decision.labels(alloc)?;
-    by_labels(
-        alloc,
-        cache,
-        moment,
-        name,
-        run,
-        facts.children.as_slice(),
-        &decision,
-        labels.as_slice(),
-    )
+    schedule(alloc, cache, name, run, children, kept, labels)
 }
 
 /// Whether no row looks at a label: the run wasn't started, and is pending or can start.
@@ -116,22 +91,29 @@ fn is_unlabelled(run: &RunState) -> bool
     run.start.is_none() && (run.pending || is_startable(&run.spec.start))
 }
 
-/// Of an open run.
+/// Of an open run, by its kept labels and its children without a TaskRun.
 fn of_open(
     alloc: Global,
     cache: &Cache,
     moment: u64,
     name: &str,
     run: &RunState,
+    kept: &Labels,
+    bare: &[Child],
 ) -> Result<Option<Act>, AllocError>
     requires fit { IsFit (seen cache.now).view run.now }
+    requires facts { kept.now ≡ facts_in (seen cache.now).view run.now }
+    requires bare { bare.now ≡ missing_in (seen cache.now).view run.now }
     ensures { IfOk result (λ act. act ≡ open_act (seen cache.now).view moment name.now run.now) }
 {
-    let children = children_seen(alloc, cache, run)?;
     if is_unlabelled(run) {
-        return without_labels(alloc, cache, name, run, children.as_slice());
+        return without_labels(alloc, cache, name, run, bare);
     }
-    labelled(alloc, cache, moment, name, run, children)
+    let children = kept.children();
+    let labels = kept.labels();
+    by_labels(
+        alloc, cache, moment, name, run, children, bare, kept, labels,
+    )
 }
 
 /// Of a run: a closed one only cancels what its stops reach.
@@ -141,20 +123,24 @@ fn of_run(
     moment: u64,
     name: &str,
     run: &RunState,
+    kept: &Labels,
+    bare: &[Child],
 ) -> Result<Option<Act>, AllocError>
     requires fit { IsFit (seen cache.now).view run.now }
+    requires facts { kept.now ≡ facts_in (seen cache.now).view run.now }
+    requires bare { bare.now ≡ missing_in (seen cache.now).view run.now }
     ensures { IfOk result (λ act. act ≡ act_of (seen cache.now).view moment name.now run.now) }
 {
     if run.closed.is_some() {
         return cancel(alloc, cache, name, run);
     }
-    of_open(alloc, cache, moment, name, run)
+    of_open(alloc, cache, moment, name, run, kept, bare)
 }
 
 /// Of the run at this place.
 fn of_place(
     alloc: Global,
-    cache: &Cache,
+    cache: &RunCache,
     moment: u64,
     place: u64,
 ) -> Result<Option<Act>, AllocError>
@@ -162,23 +148,37 @@ fn of_place(
     requires within { place < length (seen cache.now).view.runs }
     ensures { IfOk result (λ act. act ≡ option_and_then (act_named (seen cache.now).view moment) (slice_get (seen cache.now).view.runs place)) }
 {
-    of_run(
-        alloc,
-        cache,
-        moment,
-        cache.run_name(place),
-        cache.run_at(place),
-    )
+    let shown = cache.cache();
+    let name = shown.run_name(place);
+    let run = shown.run_at(place);
+    let Some(kept) = cache.labels(name) else {
+        unreachable!()
+    };
+    let Some(bare) = cache.missing(name) else {
+        unreachable!()
+    };
+    of_run(alloc, shown, moment, name, run, kept, bare)
+}
+
+/// How many runs a cache shows.
+fn run_count(cache: &RunCache) -> u64
+    ensures { result ≡ length (seen cache.now).view.runs }
+{
+    cache.cache().run_count()
 }
 
 /// The first act that the cache justifies at this moment, in milliseconds, of runs in order of admission. The only error
 /// is want of memory.
 #[tactic(auto, using(crate::proofs::Places::choice_later, crate::proofs::Places::choice_here, crate::proofs::Places::choice_end))]
-pub(crate) fn choose(alloc: Global, cache: &Cache, moment: u64) -> Result<Option<Act>, AllocError>
+pub(crate) fn choose(
+    alloc: Global,
+    cache: &RunCache,
+    moment: u64,
+) -> Result<Option<Act>, AllocError>
     requires fit { AreFit (seen cache.now).view }
     ensures { IfOk result (λ act. act ≡ choice (seen cache.now).view moment) }
 {
-    for place in 0..cache.run_count() {
+    for place in 0..run_count(cache) {
         if let Some(act) = of_place(alloc, cache, moment, place)? {
             return Ok(Some(act));
         }

@@ -14,8 +14,8 @@ use crate::stops::{is_startable, was_recorded};
 use std::alloc::{AllocError, Global};
 use tk_cache::Cache;
 use tk_journal::{Act, Closing, RunState, Skip};
+use tk_labels::Labels;
 use tk_types::{Asked, Child, Condition, List, Stop, Text, Verdict};
-use tk_verdict::Decision;
 
 fn is_finished(label: Verdict) -> bool
     ensures { result ≡ is_done label }
@@ -97,18 +97,18 @@ fn skips(alloc: Global, labels: &[Verdict]) -> Result<Vec<Skip>, AllocError>
 /// What a run closes with.
 fn closing(
     alloc: Global,
-    decision: &Decision,
+    kept: &Labels,
     labels: &[Verdict],
     condition: Condition,
 ) -> Result<Closing, AllocError>
-    requires labels { labels.now ≡ labels_of decision.now }
+    requires labels { labels.now ≡ labels_of kept.now }
     requires few { length labels.now < 2 ^ 32 }
-    ensures { IfOk result (λ closing. closing ≡ closing_of decision.now condition) }
+    ensures { IfOk result (λ closing. closing ≡ closing_of kept.now condition) }
 {
     Ok(Closing::Run {
         condition,
         skipped: List::from_vec(skips(alloc, labels)?),
-        results: decision.results(alloc)?,
+        results: kept.results(alloc)?,
     })
 }
 
@@ -119,23 +119,23 @@ pub(crate) fn close(
     name: &str,
     run: &RunState,
     children: &[Child],
-    decision: &Decision,
+    kept: &Labels,
     labels: &[Verdict],
 ) -> Result<Option<Act>, AllocError>
     requires fit { IsFit (seen cache.now).view run.now }
     requires children { children.now ≡ seen_children (seen cache.now).view run.now }
-    requires facts { decision.now ≡ facts_in (seen cache.now).view run.now }
-    requires labels { labels.now ≡ labels_of decision.now }
+    requires facts { kept.now ≡ facts_in (seen cache.now).view run.now }
+    requires labels { labels.now ≡ labels_of kept.now }
     ensures { IfOk result (λ act. act ≡ close_row (seen cache.now).view name.now run.now labels.now) }
 {
     if run.pending || !is_all_over(alloc, cache, run, children, labels)? {
         return Ok(None);
     }
-    match decision.condition_with(alloc, labels)? {
+    match kept.condition(alloc)? {
         None => Ok(None),
         Some(condition) => Ok(Some(Act::Close {
             name: Text::from_str(alloc, name)?,
-            closing: closing(alloc, decision, labels, condition)?,
+            closing: closing(alloc, kept, labels, condition)?,
         })),
     }
 }

@@ -1,6 +1,7 @@
 ghost use Rattle.std.specs.Prelude.{◌≡◌, None, IfOk};
 ghost use Rattle.tk_cache.specs.Views.{seen};
-ghost use Rattle.tk_runrec.specs.Choice.{seen_children, missing as missing_of, make_first};
+ghost use Rattle.tk_run_cache.specs.Labelled.{missing_in};
+ghost use Rattle.tk_runrec.specs.Choice.{missing as missing_of, make_first};
 ghost use Rattle.tk_runrec.specs.Found.{first_found};
 
 use crate::children::child_name;
@@ -48,18 +49,19 @@ fn first_missing(
     Ok(best)
 }
 
-/// The row MakeTaskRun.
+/// The row MakeTaskRun, of the children that have none.
+#[tactic(auto, using(crate::proofs::Missing::first_among))]
 pub(crate) fn make(
     alloc: Global,
     cache: &Cache,
     name: &str,
     run: &RunState,
-    children: &[Child],
+    bare: &[Child],
 ) -> Result<Option<Act>, AllocError>
-    requires children { children.now ≡ seen_children (seen cache.now).view run.now }
+    requires bare { bare.now ≡ missing_in (seen cache.now).view run.now }
     ensures { IfOk result (λ act. act ≡ make_first (seen cache.now).view name.now run.now) }
 {
-    match first_missing(alloc, cache, run, children)? {
+    match first_missing(alloc, cache, run, bare)? {
         None => Ok(None),
         Some(found) => {
             let mark = reaches(run, found.task);

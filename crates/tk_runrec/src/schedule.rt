@@ -18,8 +18,8 @@ use crate::stops::{asked_level, is_of_finally, level_of};
 use std::alloc::{AllocError, Global};
 use tk_cache::Cache;
 use tk_journal::{Act, RunState};
+use tk_labels::Labels;
 use tk_types::{Asked, Child, Stop, Text, Verdict};
-use tk_verdict::Decision;
 
 fn is_none_asked(asked: &[Asked]) -> bool
     ensures { result ≡ list_all (λ (a : AnAsked). nat_eq (level_of_asked a) 0) asked.now }
@@ -84,14 +84,12 @@ fn first_ready(run: &RunState, children: &[Child], labels: &[Verdict]) -> Option
 fn schedule_task(
     alloc: Global,
     name: &str,
-    decision: &Decision,
-    labels: &[Verdict],
+    kept: &Labels,
     task: u32,
 ) -> Result<Option<Act>, AllocError>
-    requires { labels.now ≡ labels_of decision.now }
-    ensures { IfOk result (λ act. act ≡ schedule_of_task name.now decision.now labels.now task) }
+    ensures { IfOk result (λ act. act ≡ schedule_of_task name.now kept.now (labels_of kept.now) task) }
 {
-    match decision.ready_with(alloc, labels, task)? {
+    match kept.bindings(alloc, task)? {
         None => Ok(None),
         Some(bindings) => Ok(Some(Act::Schedule {
             name: Text::from_str(alloc, name)?,
@@ -108,13 +106,13 @@ pub(crate) fn schedule(
     name: &str,
     run: &RunState,
     children: &[Child],
-    decision: &Decision,
+    kept: &Labels,
     labels: &[Verdict],
 ) -> Result<Option<Act>, AllocError>
     requires fit { IsFit (seen cache.now).view run.now }
     requires children { children.now ≡ seen_children (seen cache.now).view run.now }
-    requires facts { decision.now ≡ facts_in (seen cache.now).view run.now }
-    requires labels { labels.now ≡ labels_of decision.now }
+    requires facts { kept.now ≡ facts_in (seen cache.now).view run.now }
+    requires labels { labels.now ≡ labels_of kept.now }
     ensures { IfOk result (λ act. act ≡ schedule_row (seen cache.now).view name.now run.now labels.now) }
 {
     if run.start.is_none() {
@@ -122,6 +120,6 @@ pub(crate) fn schedule(
     }
     match first_ready(run, children, labels) {
         None => Ok(None),
-        Some(task) => schedule_task(alloc, name, decision, labels, task),
+        Some(task) => schedule_task(alloc, name, kept, task),
     }
 }

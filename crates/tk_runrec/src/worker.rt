@@ -2,15 +2,24 @@ ghost use Rattle.std.specs.Prelude.{◌≡◌, IfOk, OnErr};
 ghost use Rattle.tk_journal.specs.declared.entry.Actor.TheVariants as actors;
 ghost use Rattle.tk_cache.specs.Fronts.{Shows};
 ghost use Rattle.tk_cache.specs.Views.{seen};
-ghost use Rattle.tk_choice.specs.Took.{Took, TookFirst, entry_of};
+ghost use Rattle.tk_choice.specs.Took.{IsAnswered, MayTry, Took, TookFirst, entry_of};
 ghost use Rattle.tk_runrec.specs.Choice.{choice};
 
 use crate::choice::choose;
 use std::alloc::{AllocError, Global};
-use tk_cache::Cache;
 use tk_choice::try_act;
-use tk_journal::Actor;
+use tk_journal::{Act, Actor};
+use tk_run_cache::RunCache;
 use tk_store::{Store, Turn};
+
+/// Tries an act at the fronts of a run worker's cache, as `try_act` does.
+fn tried(actor: Actor, cache: &RunCache, store: &mut Store, moment: u64, act: Act) -> Turn
+    requires shows { Shows (seen cache.now) store.old.history }
+    requires may { MayTry (seen cache.now).view actor moment act }
+    ensures { IsAnswered store.old (entry_of actor cache.now.fronts moment act) result store.new }
+{
+    try_act(actor, cache.cache(), store, moment, act)
+}
 
 /// The run worker of this number. It keeps nothing between its turns.
 #[derive(Clone, Copy, Debug, PartialEq, Eq)]
@@ -32,7 +41,7 @@ impl RunWorker {
     pub fn turn(
         &mut self,
         alloc: Global,
-        cache: &Cache,
+        cache: &RunCache,
         store: &mut Store,
         moment: u64,
     ) -> Result<Turn, AllocError>
@@ -46,7 +55,7 @@ impl RunWorker {
         let actor = Actor::Runs(self.number);
         match choose(alloc, cache, moment)? {
             None => Ok(Turn::Idle),
-            Some(act) => Ok(try_act(actor, cache, store, moment, act)),
+            Some(act) => Ok(tried(actor, cache, store, moment, act)),
         }
     }
 }

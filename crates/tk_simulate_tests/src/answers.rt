@@ -24,7 +24,7 @@ const WITH_TIMEOUTS: &str = "{'apiVersion': 'v1', 'kind': 'List', 'items': [
     {'apiVersion': 'tkn.local/v1', 'kind': 'Scenario', 'metadata': {'name': 's'}, 'spec': ";
 
 /// The bytes of an input: `'` stands for `"`.
-fn input(alloc: Global, runs: &str, scenario: &str) -> Result<Vec<u8>, AllocError> {
+pub(crate) fn input(alloc: Global, runs: &str, scenario: &str) -> Result<Vec<u8>, AllocError> {
     let mut bytes = Vec::new(alloc);
     for part in [runs, scenario, "}]}"] {
         for byte in part.as_bytes() {

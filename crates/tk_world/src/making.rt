@@ -8,7 +8,7 @@ ghost use Rattle.tk_world.specs.Whole.{AreNewCaches, AreNewNodes};
 
 use crate::node::Node;
 use std::alloc::{AllocError, Global};
-use tk_cache::Cache;
+use tk_run_cache::RunCache;
 use tk_script::PodScript;
 use tk_types::{List, TryCopy};
 
@@ -38,12 +38,12 @@ pub(crate) fn copy_scripts(
 }
 
 /// So many caches that have seen nothing. The only error is want of memory.
-pub(crate) fn new_caches(alloc: Global, count: u32) -> Result<Vec<Cache>, AllocError>
+pub(crate) fn new_caches(alloc: Global, count: u32) -> Result<Vec<RunCache>, AllocError>
     ensures { IfOk result (λ caches. AreNewCaches count caches.items) }
 {
     let mut caches = Vec::new(alloc);
     for place in 0..count {
-        caches.push(Cache::empty(alloc))?;
+        caches.push(RunCache::empty(alloc))?;
     }
     Ok(caches)
 }

@@ -8,6 +8,7 @@ ghost use Rattle.tk_world.specs.Moves.{moved};
 use std::alloc::AllocError;
 use tk_cache::Cache;
 use tk_journal::Journal;
+use tk_run_cache::RunCache;
 use tk_types::Kind;
 
 /// How a cache is moved.
@@ -46,6 +47,39 @@ pub(crate) fn move_cache(cache: &mut Cache, journal: &Journal, how: Move) -> Res
     match how {
         Move::Deliver { kind, n } => cache.deliver(journal, kind, n),
         Move::DeliverAll => deliver_all(cache, journal),
+        Move::Relist { kind, position } => cache.relist(journal, kind, position.min(journal.len())),
+    }
+}
+
+/// Moves all three fronts of a controller's cache to the journal's end. Without memory the cache is empty.
+fn deliver_all_runs(cache: &mut RunCache, journal: &Journal) -> Result<(), AllocError>
+    requires legal { IsLegal journal.now.history }
+    requires shows { Shows (seen cache.old) journal.now.history }
+    ensures fronts { OnOk result (cache.new.fronts ≡ at_end journal.now.history) }
+    ensures shows { OnOk result (Shows (seen cache.new) journal.now.history) }
+    ensures err { OnErr result (Shows (seen cache.new) []) }
+{
+    let end = journal.len();
+    cache.relist(journal, Kind::Runs, end)?;
+    cache.relist(journal, Kind::TaskRuns, end)?;
+    cache.relist(journal, Kind::Pods, end)
+}
+
+/// Moves a controller's cache. Without memory the cache is empty.
+pub(crate) fn move_run_cache(
+    cache: &mut RunCache,
+    journal: &Journal,
+    how: Move,
+) -> Result<(), AllocError>
+    requires legal { IsLegal journal.now.history }
+    requires shows { Shows (seen cache.old) journal.now.history }
+    ensures fronts { OnOk result (cache.new.fronts ≡ moved how journal.now.history cache.old.fronts) }
+    ensures shows { OnOk result (Shows (seen cache.new) journal.now.history) }
+    ensures err { OnErr result (Shows (seen cache.new) []) }
+{
+    match how {
+        Move::Deliver { kind, n } => cache.deliver(journal, kind, n),
+        Move::DeliverAll => deliver_all_runs(cache, journal),
         Move::Relist { kind, position } => cache.relist(journal, kind, position.min(journal.len())),
     }
 }

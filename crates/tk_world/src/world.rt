@@ -19,7 +19,7 @@ ghost use Rattle.tk_world.specs.Whole.{IsWorld, machine_of};
 
 use crate::looking::is_open;
 use crate::making::{new_caches, new_nodes};
-use crate::moves::{Move, deliver_all, move_cache};
+use crate::moves::{Move, deliver_all, move_cache, move_run_cache};
 use crate::node::{Node, ROOT};
 use crate::stepped::Stepped;
 use std::alloc::{AllocError, Global};
@@ -27,6 +27,7 @@ use std::marker::Model;
 use tk_cache::Cache;
 use tk_journal::{Admitted, Journal};
 use tk_kubelet::{Kubelet, KubeletTurn};
+use tk_run_cache::RunCache;
 use tk_runrec::RunWorker;
 use tk_script::PodScript;
 use tk_store::{Store, Turn};
@@ -41,7 +42,7 @@ pub struct World {
     alloc: Global,
     store: Store,
     clock: u64,
-    controllers: Vec<Cache>,
+    controllers: Vec<RunCache>,
     nodes: Vec<Node>,
     scripts: List<PodScript>,
     watch: Cache,
@@ -129,7 +130,7 @@ impl World {
         ensures err { OnErr result (self.new.store.history ≡ self.old.store.history) }
     {
         let cache = &mut self.controllers[i as usize];
-        move_cache(cache, self.store.journal(), how)
+        move_run_cache(cache, self.store.journal(), how)
     }
 
     /// Moves a kubelet's cache.
@@ -181,7 +182,7 @@ impl World {
     {
         let cache = &self.controllers[i as usize];
         let mut worker = TaskWorker::new(i);
-        with_room(worker.turn(self.alloc, cache, &mut self.store, self.clock)?)
+        with_room(worker.turn(self.alloc, cache.cache(), &mut self.store, self.clock)?)
     }
 
     /// A kubelet's turn.
@@ -218,7 +219,7 @@ impl World {
         ensures { Goes (events.Restart (viewers.Controller i) ∷ []) self.old self.new }
     {
         let cache = &mut self.controllers[i as usize];
-        *cache = Cache::empty(self.alloc);
+        *cache = RunCache::empty(self.alloc);
     }
 
     /// A kubelet comes back with nothing, in its next life, over the same host; in its last life nothing changes.

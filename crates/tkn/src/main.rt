@@ -34,28 +34,35 @@ mod top;
 #[cfg(test)]
 mod top_tests;
 
-use remembering::Remembering;
+use remembering::{Heard, Remembering};
 use std::alloc::{AllocError, Global};
 use std::process::ExitCode;
 use std::sync::Wait;
 use std::{env, io};
-use tk_advice::advice;
+use tk_advice::{USAGE, advice, complaint};
 use tk_edge::{Fresh, Host, ReadSource, RealHost, SystemClock, WriteSink};
 use tk_rounds::{Bench, Controller, Node};
 use tk_types::{List, Text};
 use top::tkn;
 
-/// What standard error says of a status, if anything.
+/// What standard error says beside a status.
+#[derive(Drop)]
+enum Said {
+    Nothing,
+    /// How the commands are called, behind what is wrong with the words.
+    Usage(&'static str, &'static str),
+    /// What is wrong with the input, and what to do.
+    Advice(String),
+}
+
+/// What standard error says of a status that has nothing to do with what the input says, if anything.
 fn message(status: u8) -> Option<&'static str> {
     match status {
-        2 => Some(
-            "tkn: no such command; usage: tkn check < INPUT.json, tkn decide < INPUT.json, tkn simulate [--json] < INPUT.json, or tkn run [--json] [--root DIR] [RUN=STATUS@DURATION].. < INPUT.json",
-        ),
-        4 => Some("tkn: standard input can't be read; give the input by < INPUT.json or by a pipe"),
+        4 => Some("standard input can't be read; give the input by < INPUT.json or by a pipe"),
         5 => Some(
-            "tkn: standard output can't be written, so the text is cut; free the disk or keep the pipe open",
+            "standard output can't be written, so the text is cut; free the disk or keep the pipe open",
         ),
-        6 => Some("tkn: there is not enough memory for this input; split it or give more memory"),
+        6 => Some("there is not enough memory for this input; split it or give more memory"),
         _ => None,
     }
 }
@@ -69,11 +76,11 @@ fn words(rt: &HostRuntime, alloc: Global) -> io::Result<List<Text>> {
     Ok(words)
 }
 
-/// The status of a program whose words can't be had.
-fn status_of(error: io::Error) -> u8 {
+/// How a program ends whose words can't be had.
+fn without_words(error: io::Error) -> (u8, Said) {
     match error.kind() {
-        io::ErrorKind::OutOfMemory => 6,
-        _ => 2,
+        io::ErrorKind::OutOfMemory => (6, Said::Nothing),
+        _ => (2, Said::Usage("a word isn't text in UTF-8", USAGE)),
     }
 }
 
@@ -125,25 +132,28 @@ fn bench<'a>(
     })
 }
 
-/// What to say of an input at fault, by the line that was printed.
-fn advice_of(alloc: Global, printed: &[u8]) -> Option<String> {
-    match std::str::from_utf8(printed) {
-        Ok(line) => advice(alloc, line).unwrap_or(None),
-        Err(_) => None,
+/// What to say of an input at fault, by the line that was printed and by what was read.
+fn advice_of(alloc: Global, printed: &[u8], read: Option<&[u8]>) -> Said {
+    let (Ok(line), Some(read)) = (std::str::from_utf8(printed), read) else {
+        return Said::Nothing;
+    };
+    match advice(alloc, line, read) {
+        Ok(Some(advice)) => Said::Advice(advice),
+        _ => Said::Nothing,
     }
 }
 
-/// Carries out the words, and gives the status, and what else to say where an input is at fault.
-fn run<T: Wait>(rt: &HostRuntime, wait: &T) -> (u8, Option<String>) {
+/// Carries out the words, and gives the status, and what else to say.
+fn run<T: Wait>(rt: &HostRuntime, wait: &T) -> (u8, Said) {
     let alloc = rt.alloc();
     let words = match words(rt, alloc) {
         Ok(words) => words,
-        Err(error) => return (status_of(error), None),
+        Err(error) => return without_words(error),
     };
     let Ok(mut bench) = bench(rt, alloc) else {
-        return (6, None);
+        return (6, Said::Nothing);
     };
-    let mut input = ReadSource::new(rt.reader());
+    let mut input = Heard::new(alloc, ReadSource::new(rt.reader()));
     let mut sink = Remembering::new(alloc, WriteSink::new(io::writer(rt)));
     let ended = tkn(
         wait,
@@ -154,18 +164,30 @@ fn run<T: Wait>(rt: &HostRuntime, wait: &T) -> (u8, Option<String>) {
         &mut bench,
     );
     match ended.status {
-        3 => (3, advice_of(alloc, sink.front())),
-        status => (status, None),
+        2 => (2, Said::Usage(complaint(words.as_slice()), USAGE)),
+        3 => (3, advice_of(alloc, sink.front(), input.bytes())),
+        status => (status, Said::Nothing),
+    }
+}
+
+/// Writes what is said to standard error, as far as that takes it.
+fn say(rt: &HostRuntime, said: &Said) {
+    match said {
+        Said::Nothing => {}
+        Said::Usage(complaint, usage) => {
+            let _ = eprintln!(rt; "tkn: {complaint}; {usage}");
+        }
+        Said::Advice(advice) => {
+            let _ = eprintln!(rt; "tkn: {advice}");
+        }
     }
 }
 
 fn main(rt: HostRuntime) -> ExitCode {
-    let (status, advice) = run(&rt, &rt);
+    let (status, said) = run(&rt, &rt);
     if let Some(message) = message(status) {
-        let _ = eprintln!(rt; "{message}");
+        let _ = eprintln!(rt; "tkn: {message}");
     }
-    if let Some(advice) = advice {
-        let _ = eprintln!(rt; "tkn: {advice}");
-    }
+    say(&rt, &said);
     ExitCode::from(status)
 }

@@ -13,7 +13,7 @@ use Rattle.tk_runrec.proofs.choice.by_labels.Goals as goal
 
 pub halt-requires : goal.halt-requires
 halt-requires c =
-    let long = labels_length c.args.decision.now in
+    let long = labels_length c.args.kept.now in
     let same = ap (λ (labels : List Verdict). length labels) c.requires.labels in
     let spec = ap (λ (facts : Facts). task_count facts.spec) c.requires.facts in
     let sum : task_count c.args.run.now.spec ≡ length c.args.run.now.spec.tasks + length c.args.run.now.spec.finally = refl in

@@ -7,7 +7,7 @@ use Rattle.tk_runrec.proofs.close.close.Goals as goal
 
 pub closing-requires-clause-few : goal.closing-requires-clause-few
 closing-requires-clause-few c =
-    let long = labels_length c.args.decision.now in
+    let long = labels_length c.args.kept.now in
     let same = ap (λ (labels : List Verdict). length labels) c.requires.labels in
     let spec = ap (λ (facts : Facts). task_count facts.spec) c.requires.facts in
     let few = c.requires.fit.few_tasks in

@@ -8,5 +8,5 @@ use Rattle.tk_runrec.proofs.close.closing.Goals as goal
 
 pub returns : goal.returns
 returns c =
-    let skipped = c.from_vec.ensures ∙ c.in_ok-skips.ensures ∙ ap (skips_in 0) c.requires.labels ∙ skips_same c.args.decision.now in
+    let skipped = c.from_vec.ensures ∙ c.in_ok-skips.ensures ∙ ap (skips_in 0) c.requires.labels ∙ skips_same c.args.kept.now in
     ap₂ (λ (skips : List Skip) (results : List Param). closings.Run c.args.condition skips results) skipped c.in_ok-results.ensures

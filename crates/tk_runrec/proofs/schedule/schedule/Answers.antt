@@ -7,7 +7,7 @@ use Rattle.tk_runrec.proofs.schedule.schedule.Goals as goal
 
 pub first_ready-requires : goal.first_ready-requires
 first_ready-requires c =
-    let long = labels_length c.args.decision.now in
+    let long = labels_length c.args.kept.now in
     let same = ap (λ (labels : List Verdict). length labels) c.requires.labels in
     let spec = ap (λ (facts : Facts). task_count facts.spec) c.requires.facts in
     let few = c.requires.fit.few_tasks in

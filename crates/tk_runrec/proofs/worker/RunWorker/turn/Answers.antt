@@ -7,21 +7,21 @@ use Rattle.tk_runrec.proofs.worker.RunWorker.turn.Goals as goal
 pub choose-requires : goal.choose-requires
 choose-requires c = record { fit = are_fit (seen c.args.cache.now) c.args.store.now.history c.legal.ensures c.requires.shows }
 
-pub try_act-requires-clause-may : goal.try_act-requires-clause-may
-try_act-requires-clause-may c =
+pub tried-requires-clause-may : goal.tried-requires-clause-may
+tried-requires-clause-may c =
     let found : choice (seen c.args.cache.now).view c.args.moment ≡ Some c.in-Some.act = sym c.in_ok-choose.ensures ∙ c.in-Some.is in
     may_be_tried (seen c.args.cache.now) c.args.store.now.history c.legal.ensures c.requires.shows c.args.self.now.number c.args.moment c.in-Some.act found
 
 pub returns-in-Some-clause-took : goal.returns-in-Some-clause-took
 returns-in-Some-clause-took c =
     let found : choice (seen c.args.cache.now).view c.args.moment ≡ Some c.in-Some.act = sym c.in_ok-choose.ensures ∙ c.in-Some.is in
-    takes (seen c.args.cache.now) c.args.store.now.history c.legal.ensures c.requires.shows c.args.self.now.number c.args.moment c.args.store.now c.try_act.result c.try_act.new.store c.in-Some.act found c.try_act.ensures
+    takes (seen c.args.cache.now) c.args.store.now.history c.legal.ensures c.requires.shows c.args.self.now.number c.args.moment c.args.store.now c.tried.result c.tried.new.store c.in-Some.act found c.tried.ensures
 
 pub returns-in-Some-clause-first : goal.returns-in-Some-clause-first
 returns-in-Some-clause-first c =
     let found : choice (seen c.args.cache.now).view c.args.moment ≡ Some c.in-Some.act = sym c.in_ok-choose.ensures ∙ c.in-Some.is in
-    takes_first (seen c.args.cache.now) c.args.store.now.history c.legal.ensures c.requires.shows c.args.self.now.number c.args.moment c.args.store.now c.try_act.result c.try_act.new.store
-    (takes (seen c.args.cache.now) c.args.store.now.history c.legal.ensures c.requires.shows c.args.self.now.number c.args.moment c.args.store.now c.try_act.result c.try_act.new.store c.in-Some.act found c.try_act.ensures)
+    takes_first (seen c.args.cache.now) c.args.store.now.history c.legal.ensures c.requires.shows c.args.self.now.number c.args.moment c.args.store.now c.tried.result c.tried.new.store
+    (takes (seen c.args.cache.now) c.args.store.now.history c.legal.ensures c.requires.shows c.args.self.now.number c.args.moment c.args.store.now c.tried.result c.tried.new.store c.in-Some.act found c.tried.ensures)
 
 pub returns-in-None-clause-first : goal.returns-in-None-clause-first
 returns-in-None-clause-first c =

@@ -13,10 +13,10 @@ use Rattle.tk_world.proofs.world.World.move_controller.Goals as goal
 
 pub returns-clause-ok : goal.returns-clause-ok
 returns-clause-ok c =
-    subst (λ (w : Whole). OnOk c.move_cache.result (Goes (moves_by (viewers.Controller c.args.i) c.args.how ∷ []) w
-    (whole_of c.self.inside.store c.self.inside.clock (slice_set c.self.inside.controllers.items c.args.i c.move_cache.new.cache) c.self.inside.nodes.items c.self.inside.scripts c.self.inside.watch))) c.self.view_is
-    (ok_both c.move_cache.result c.move_cache.ensures.fronts c.move_cache.ensures.shows (λ fronts shows.
+    subst (λ (w : Whole). OnOk c.move_run_cache.result (Goes (moves_by (viewers.Controller c.args.i) c.args.how ∷ []) w
+    (whole_of c.self.inside.store c.self.inside.clock (slice_set c.self.inside.controllers.items c.args.i c.move_run_cache.new.cache) c.self.inside.nodes.items c.self.inside.scripts c.self.inside.watch))) c.self.view_is
+    (ok_both c.move_run_cache.result c.move_run_cache.ensures.fronts c.move_run_cache.ensures.shows (λ fronts shows.
     controller_moves c.self.inside.store c.self.inside.clock c.self.inside.controllers.items c.self.inside.nodes.items c.self.inside.scripts c.self.inside.watch (stands_inside (whole_of c.self.inside.store c.self.inside.clock c.self.inside.controllers.items c.self.inside.nodes.items c.self.inside.scripts c.self.inside.watch) c.args.self.now c.self.view_is c.requires.world)
-    c.args.how c.args.i c.index_mut-cache.result.now c.move_cache.new.cache (controller_at (whole_of c.self.inside.store c.self.inside.clock c.self.inside.controllers.items c.self.inside.nodes.items c.self.inside.scripts c.self.inside.watch) c.args.self.now c.self.view_is c.requires.world c.args.i c.index_mut-cache.result.now c.requires.place c.index_mut-cache.ensures.value)
-    (subst (λ (h : List Entry). c.move_cache.new.cache.fronts ≡ moved c.args.how h c.index_mut-cache.result.now.fronts) c.journal.ensures fronts)
-    (subst (Shows (seen c.move_cache.new.cache)) c.journal.ensures shows)))
+    c.args.how c.args.i c.index_mut-cache.result.now c.move_run_cache.new.cache (controller_at (whole_of c.self.inside.store c.self.inside.clock c.self.inside.controllers.items c.self.inside.nodes.items c.self.inside.scripts c.self.inside.watch) c.args.self.now c.self.view_is c.requires.world c.args.i c.index_mut-cache.result.now c.requires.place c.index_mut-cache.ensures.value)
+    (subst (λ (h : List Entry). c.move_run_cache.new.cache.fronts ≡ moved c.args.how h c.index_mut-cache.result.now.fronts) c.journal.ensures fronts)
+    (subst (Shows (seen c.move_run_cache.new.cache)) c.journal.ensures shows)))

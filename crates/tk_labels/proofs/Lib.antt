@@ -1,0 +1,13 @@
+pub mod Changes
+pub mod FewResults
+pub mod KeptAfter
+pub mod LineCases
+pub mod Local
+pub mod Relabelled
+pub mod SameFaces
+pub mod SameFinals
+pub mod Shown
+pub mod SkippedBare
+pub mod WalkStep
+pub mod Walks
+pub mod WithStop

@@ -1,0 +1,4 @@
+pub mod Change
+pub mod Kept
+pub mod Local
+pub mod Reached
