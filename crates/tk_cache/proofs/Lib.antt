@@ -3,7 +3,9 @@ pub mod Counts
 pub mod Held
 pub mod Named
 pub mod Nexts
+pub mod Passed
 pub mod Passing
+pub mod Placed
 pub mod Positions
 pub mod Reading
 pub mod Showing

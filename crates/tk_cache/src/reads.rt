@@ -1,6 +1,7 @@
 ghost use Rattle.std.specs.Prelude.{◌≡◌, ◌<◌, ◌++◌, ◌∷◌, [], ℕ, List as Items, length, slice_get, Some, IfOk, OnOk, option_copied};
 ghost use Rattle.std.specs.Map.{keys_of};
 ghost use Rattle.tk_cache.specs.Children.{children_of, is_name};
+ghost use Rattle.tk_places.specs.Places.{IsPlaceOf};
 ghost use Rattle.tk_cache.specs.Views.{named, object_in, seen, version_in};
 
 use crate::cache::Cache;
@@ -34,6 +35,16 @@ fn name_at<T>(objects: &Objects<T>, place: u64) -> &str
     match objects.get_index(place as usize) {
         Some((name, _)) => name.as_str(),
         None => unreachable!(),
+    }
+}
+
+/// The place of a name, in order of creation.
+fn place_of<T>(objects: &Objects<T>, name: &str) -> Option<u64>
+    ensures { IsPlaceOf (keys_of (named objects.now)) name.now result }
+{
+    match objects.get_index_of(name) {
+        Some(place) => Some(place as u64),
+        None => None,
     }
 }
 
@@ -173,6 +184,20 @@ impl Cache {
         ensures { (name : Items ℕ) → slice_get (seen self.now).view.pods place ≡ Some name → (seen self.now).view.pod name ≡ Some result.now }
     {
         at(&self.pods, place)
+    }
+
+    /// The place of the TaskRun of this name, in order of creation, None where there is none.
+    pub fn task_run_place(&self, name: &str) -> Option<u64>
+        ensures { IsPlaceOf (seen self.now).view.task_runs name.now result }
+    {
+        place_of(&self.task_runs, name)
+    }
+
+    /// The place of the pod of this name, in order of creation, None where there is none.
+    pub fn pod_place(&self, name: &str) -> Option<u64>
+        ensures { IsPlaceOf (seen self.now).view.pods name.now result }
+    {
+        place_of(&self.pods, name)
     }
 
     /// The names of a run's TaskRuns, in order of creation. The only error is want of memory.

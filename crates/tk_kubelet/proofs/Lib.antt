@@ -7,4 +7,5 @@ pub mod Found
 pub mod Judged
 pub mod Justified
 pub mod Rows
+pub mod Skipped
 pub mod Turned

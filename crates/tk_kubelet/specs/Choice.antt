@@ -1,9 +1,11 @@
 -- Which entry a kubelet tries, by what it sees and by what it holds.
-use Rattle.std.specs.Prelude.{◌≡◌, ◌≤◌, ℕ, Bool, true, false, ◌&&◌, ◌||◌, nat_eq, nat_lt, bytes_eq, if◌then◌else◌, List, length, filter, find, Option, Some, None, is_some, is_none, slice_get}
+use Rattle.std.specs.Prelude.{◌≡◌, ◌≤◌, ◌<◌, ℕ, Bool, true, false, ◌&&◌, ◌||◌, nat_eq, nat_lt, bytes_eq, if◌then◌else◌, List, length, filter, find, Option, Some, None, is_some, slice_get}
 use Rattle.tk_journal.specs.declared.object.Claim.{Claim}
 use Rattle.tk_journal.specs.declared.object.PodState.{PodState}
 use Rattle.tk_journal.specs.History.{View}
 use Rattle.tk_journal.specs.PodRows.{is_held_by, is_unended}
+use Rattle.tk_places.specs.Places.{IsNext, has}
+pub use Rattle.tk_pod_cache.specs.Marks.{is_unclaimed}
 use Rattle.tk_steps.specs.declared.held.HeldPod.{HeldPod}
 use Rattle.tk_steps.specs.Held.{IsPlanOf}
 use Rattle.tk_held.specs.Settled.{settled_in}
@@ -37,10 +39,6 @@ ends_state number life ends (Some state) = is_unended state.ended && ends_claim 
 abbrev pub ends_pod : ℕ → ℕ → View → ℕ → List HeldPod → List ℕ → Bool
 ends_pod number life view moment held name = ends_state number life (ends_of_held view moment (held_named held name)) (view.pod name)
 
-abbrev pub is_unclaimed : Option PodState → Bool
-is_unclaimed None = false
-is_unclaimed (Some state) = is_none state.claim
-
 -- fewer than 8 unended pods are claimed by the kubelet
 abbrev pub has_room : ℕ → View → Bool
 has_room number view = nat_lt (length (filter (λ (name : List ℕ). is_held_by number (view.pod name)) view.pods)) 8
@@ -69,3 +67,8 @@ pub record IsReadable (pod : HeldPod) : Type 0 where
 
 abbrev pub AreReadable : List HeldPod → Type 0
 AreReadable held = (place : ℕ) (pod : HeldPod) → slice_get held place ≡ Some pod → IsReadable pod
+
+-- the first place of a set, from another one on, that is below a count
+abbrev pub IsNextBelow : ℕ → ℕ → List ℕ → Option ℕ → Type 0
+IsNextBelow count from places None = (other : ℕ) → from ≤ other → other < count → has places other ≡ false
+IsNextBelow count from places (Some place) = (place < count) × IsNext from places (Some place)

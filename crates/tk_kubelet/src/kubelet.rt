@@ -10,10 +10,10 @@ ghost use Rattle.tk_kubelet.specs.Turn.{TurnGives, TurnMissed};
 use crate::turning::take_turn;
 use std::alloc::{AllocError, Global};
 use std::marker::Model;
-use tk_cache::Cache;
 use tk_edge::Host;
 use tk_held::kill_pods;
 use tk_journal::Claim;
+use tk_pod_cache::PodCache;
 use tk_steps::HeldPod;
 use tk_store::Store;
 use tk_types::Text;
@@ -85,7 +85,7 @@ impl Kubelet {
     pub fn turn<H: Host>(
         &mut self,
         alloc: Global,
-        cache: &Cache,
+        cache: &PodCache,
         store: &mut Store,
         host: &mut H,
         moment: u64,
@@ -105,7 +105,8 @@ impl Kubelet {
             alloc,
             me,
             &self.root,
-            cache,
+            cache.cache(),
+            cache.marks(),
             store,
             host,
             moment,

@@ -3,6 +3,7 @@ ghost use Rattle.std.specs.Prelude.{◌≡◌, IfOk, OnErr};
 ghost use Rattle.tk_cache.specs.Fronts.{Shows};
 ghost use Rattle.tk_cache.specs.Views.{seen};
 ghost use Rattle.tk_held.specs.Conditions.{AreMet};
+ghost use Rattle.tk_pod_cache.specs.Marks.{ArePodsMarked};
 ghost use Rattle.tk_kubelet.specs.Answer.{answer_of as the_answer};
 ghost use Rattle.tk_kubelet.specs.Seat.{hosts_of, seat_at};
 ghost use Rattle.tk_kubelet.specs.Turn.{TurnGives, TurnMissed};
@@ -16,6 +17,7 @@ use tk_cache::Cache;
 use tk_edge::Host;
 use tk_held::{Ran, run_pods};
 use tk_journal::Claim;
+use tk_pod_cache::PodMarks;
 use tk_steps::HeldPod;
 use tk_store::Store;
 use tk_types::Text;
@@ -39,11 +41,13 @@ pub(crate) fn take_turn<H: Host>(
     me: Claim,
     root: &Text,
     cache: &Cache,
+    marks: &PodMarks,
     store: &mut Store,
     host: &mut H,
     moment: u64,
     held: &mut Vec<HeldPod>,
 ) -> Result<KubeletTurn, AllocError>
+    requires marked { ArePodsMarked (seen cache.now).view marks.now }
     requires shows { Shows (seen cache.now) store.old.history }
     requires met { AreMet me.number me.life root.now held.old.items store.old.history (H.killed host.old) (H.told host.old) }
     ensures met { AreMet me.number me.life root.now held.new.items store.new.history (H.killed host.new) (H.told host.new) }
@@ -52,10 +56,10 @@ pub(crate) fn take_turn<H: Host>(
 {
     store.legal();
     let ran = run_pods(alloc, cache, host, root, moment, held)?;
-    if let Some(name) = first_end(me, cache, moment, held.as_slice()) {
+    if let Some(name) = first_end(me, cache, marks, moment, held.as_slice()) {
         return end_pod(alloc, me, root, cache, store, host, moment, held, name);
     }
-    if let Some(name) = first_claim(me.number, cache) {
+    if let Some(name) = first_claim(me.number, cache, marks) {
         return claim_pod(alloc, me, cache, store, moment, held, name);
     }
     Ok(answer_of(ran))

@@ -23,7 +23,7 @@ use Rattle.tk_store.specs.declared.turn.Turn.{Turn}
 use Rattle.tk_store.specs.declared.turn.Turn.TheVariants as store_turns
 use Rattle.tk_store.specs.Writes.{Stored}
 use Rattle.tk_cache.specs.Fronts.{Grown, NothingShows, Shows}
-use Rattle.tk_cache.specs.Views.{Kept, seen}
+use Rattle.tk_cache.specs.Views.{Kept, Seen, seen}
 use Rattle.tk_choice.specs.Took.{TookFirst, entry_of}
 use Rattle.tk_user.specs.declared.answer.AskAnswer.{AskAnswer}
 use Rattle.tk_user.specs.declared.answer.AskAnswer.TheVariants as answers
@@ -125,14 +125,14 @@ module _ (life : ℕ) (cache : Kept) (kubelet : Holding) (host : Playing) where
   same_stands : (before after : Stored) → after ≡ before → Stands life cache before.history kubelet host → Stands life cache after.history kubelet host
   same_stands before after same stands = subst (λ (s : Stored). Stands life cache s.history kubelet host) (sym same) stands
 
-  pub made_stands : OthersKeep → Grown → (moment : ℕ) (before after : Stored) (turn : Turn) → TookFirst (seen cache) (actors.Tasks 0) moment before turn after
+  pub made_stands : OthersKeep → Grown → (by : Seen) (moment : ℕ) (before after : Stored) (turn : Turn) → TookFirst by (actors.Tasks 0) moment before turn after
       → IsLegal after.history → Stands life cache before.history kubelet host → Stands life cache after.history kubelet host
-  made_stands keep grown moment before after (store_turns.Wrote version) took legal stands =
-      added_stands keep grown before.history after.history (entry_of (actors.Tasks 0) (seen cache).fronts moment took.0) took.2.1.added (λ own same. cc (same)) tt legal stands
-  made_stands keep grown moment before after (store_turns.Exists holder version) took legal stands = same_stands before after took.2.2 stands
-  made_stands keep grown moment before after (store_turns.Conflict found) took legal stands = same_stands before after took.2.2 stands
-  made_stands keep grown moment before after store_turns.Idle took legal stands = same_stands before after took.1 stands
-  made_stands keep grown moment before after store_turns.Memory took legal stands = same_stands before after took.2.2 stands
+  made_stands keep grown by moment before after (store_turns.Wrote version) took legal stands =
+      added_stands keep grown before.history after.history (entry_of (actors.Tasks 0) by.fronts moment took.0) took.2.1.added (λ own same. cc (same)) tt legal stands
+  made_stands keep grown by moment before after (store_turns.Exists holder version) took legal stands = same_stands before after took.2.2 stands
+  made_stands keep grown by moment before after (store_turns.Conflict found) took legal stands = same_stands before after took.2.2 stands
+  made_stands keep grown by moment before after store_turns.Idle took legal stands = same_stands before after took.1 stands
+  made_stands keep grown by moment before after store_turns.Memory took legal stands = same_stands before after took.2.2 stands
 
   pub asked_stands : OthersKeep → Grown → (name : List ℕ) (moment : ℕ) (before after : Stored) (answer : AskAnswer)
       → AskAnswered (refusal before.history name asks.TaskRunCancelled) (ask_entry before.history name asks.TaskRunCancelled moment) before answer after

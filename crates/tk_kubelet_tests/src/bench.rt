@@ -9,14 +9,15 @@ use crate::given::{Given, store};
 use crate::scripts::{list_of, scripts};
 use crate::telling::{Told, say, say_entries, say_turn};
 use std::alloc::{AllocError, Global};
-use tk_cache::Cache;
 use tk_cache::laws::{grown, nothing_shows};
 use tk_edge::{Host, Miss};
 use tk_held::laws::{moves_keep, nothing_is_met, others_keep};
 use tk_journal::Journal;
 use tk_kubelet::{Kubelet, KubeletTurn};
+use tk_pod_cache::PodCache;
 use tk_script::{PodScript, ScriptHost};
 use tk_store::Store;
+use tk_task_cache::TaskCache;
 use tk_taskrec::TaskWorker;
 use tk_types::{Asked, Kind, List, Text};
 use tk_user::ask;
@@ -28,7 +29,7 @@ pub(crate) struct Bench {
     moment: u64,
     life: u32,
     store: Store,
-    cache: Cache,
+    cache: PodCache,
     kubelet: Kubelet,
     host: ScriptHost,
 }
@@ -79,7 +80,7 @@ impl Bench {
             moment: 0,
             life: 1,
             store,
-            cache: Cache::empty(alloc),
+            cache: PodCache::empty(alloc),
             kubelet: Kubelet::new(alloc, 0, 1, root),
             host,
         })
@@ -105,15 +106,16 @@ impl Bench {
         self.cache.relist(self.store.journal(), Kind::Pods, 0)
     }
 
-    /// The task worker's turn.
+    /// The task worker's turn, whose cache sees all.
     fn make(&mut self) -> Result<(), AllocError>
         requires { Stands self.old.life self.old.cache self.old.store.history self.old.kubelet self.old.host }
         ensures { OnOk result (Stands self.new.life self.new.cache self.new.store.history self.new.kubelet self.new.host) }
     {
         grown();
         others_keep();
+        let tasks = all_tasks(self.alloc, &self.store)?;
         let mut worker = TaskWorker::new(0);
-        worker.turn(self.alloc, &self.cache, &mut self.store, self.moment)?;
+        worker.turn(self.alloc, &tasks, &mut self.store, self.moment)?;
         self.store.legal();
         Ok(())
     }
@@ -159,7 +161,7 @@ impl Bench {
         let root = Text::from_str(self.alloc, "/work")?;
         self.life += 1;
         self.kubelet = Kubelet::new(self.alloc, 0, self.life, root);
-        self.cache = Cache::empty(self.alloc);
+        self.cache = PodCache::empty(self.alloc);
         Ok(())
     }
 
@@ -231,7 +233,7 @@ impl Bench {
 }
 
 /// Moves all three fronts to the journal's end.
-fn see_all(cache: &mut Cache, journal: &Journal) -> Result<(), AllocError>
+fn see_all(cache: &mut PodCache, journal: &Journal) -> Result<(), AllocError>
     requires legal { IsLegal journal.now.history }
     requires shows { Shows (seen cache.old) journal.now.history }
     ensures { OnOk result (Shows (seen cache.new) journal.now.history) }
@@ -240,6 +242,20 @@ fn see_all(cache: &mut Cache, journal: &Journal) -> Result<(), AllocError>
     cache.relist(journal, Kind::Runs, end)?;
     cache.relist(journal, Kind::TaskRuns, end)?;
     cache.relist(journal, Kind::Pods, end)
+}
+
+/// A task worker's cache that sees all.
+fn all_tasks(alloc: Global, store: &Store) -> Result<TaskCache, AllocError>
+    ensures { IfOk result (λ cache. Shows (seen cache) store.now.history) }
+{
+    nothing_shows();
+    store.legal();
+    let journal = store.journal();
+    let mut cache = TaskCache::empty(alloc);
+    cache.relist(journal, Kind::Runs, journal.len())?;
+    cache.relist(journal, Kind::TaskRuns, journal.len())?;
+    cache.relist(journal, Kind::Pods, journal.len())?;
+    Ok(cache)
 }
 
 /// What is told of these looks, in order, and then of the kubelet's entries, where the steps of the first pods have these

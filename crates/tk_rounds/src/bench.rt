@@ -7,10 +7,10 @@ ghost use Rattle.tk_held.specs.Settling.{KillsHeld, StayKilled};
 ghost use Rattle.tk_kubelet.specs.Holding.{AreOwnSettled, holding_of};
 
 use std::alloc::Global;
-use tk_cache::Cache;
 use tk_edge::{Clock, Gate, GateTurn, Host};
 use tk_kubelet::Kubelet;
-use tk_run_cache::RunCache;
+use tk_pod_cache::PodCache;
+use tk_task_cache::TaskCache;
 use tk_types::Text;
 
 /// A run worker and a task worker over one cache. Both have its number.
@@ -18,7 +18,7 @@ use tk_types::Text;
 pub struct Controller<K, G> {
     pub clock: K,
     pub gate: G,
-    pub cache: RunCache,
+    pub cache: TaskCache,
     /// How many entries of the journal the cache lacked when the controller last held the store.
     pub lag: u64,
     pub number: u32,
@@ -30,7 +30,7 @@ pub struct Node<K, H, G> {
     pub clock: K,
     pub host: H,
     pub gate: G,
-    pub cache: Cache,
+    pub cache: PodCache,
     /// How many entries of the journal the cache lacked when the node last held the store.
     pub lag: u64,
     pub kubelet: Kubelet,
@@ -55,7 +55,7 @@ impl<K: Clock, G: Gate> Controller<K, G> {
         Controller {
             clock,
             gate,
-            cache: RunCache::empty(alloc),
+            cache: TaskCache::empty(alloc),
             lag: 0,
             number: 0,
         }
@@ -90,7 +90,7 @@ impl<K: Clock, H: Host, G: Gate> Node<K, H, G> {
             clock,
             host,
             gate,
-            cache: Cache::empty(alloc),
+            cache: PodCache::empty(alloc),
             lag: 0,
             kubelet: Kubelet::new(alloc, 0, 0, Text::new(alloc)),
         }

@@ -10,9 +10,9 @@ use crate::bench::Controller;
 use crate::moving::{lag_of, move_run_cache};
 use std::alloc::{AllocError, Global};
 use tk_edge::{Clock, Gate, GateTurn};
-use tk_run_cache::RunCache;
 use tk_runrec::RunWorker;
 use tk_store::{Store, Turn};
+use tk_task_cache::TaskCache;
 use tk_taskrec::TaskWorker;
 
 /// A run worker's turn, and where nothing is justified for it a task worker's. The only error is want of memory; the store
@@ -20,7 +20,7 @@ use tk_taskrec::TaskWorker;
 fn work(
     alloc: Global,
     number: u32,
-    cache: &RunCache,
+    cache: &TaskCache,
     store: &mut Store,
     moment: u64,
 ) -> Result<Turn, AllocError>
@@ -28,8 +28,8 @@ fn work(
     ensures took { IfOk result (λ turn. ControllerTook number (seen cache.now) moment store.old turn store.new) }
     ensures err { OnErr result (store.new ≡ store.old) }
 {
-    match RunWorker::new(number).turn(alloc, cache, store, moment)? {
-        Turn::Idle => TaskWorker::new(number).turn(alloc, cache.cache(), store, moment),
+    match RunWorker::new(number).turn(alloc, cache.runs(), store, moment)? {
+        Turn::Idle => TaskWorker::new(number).turn(alloc, cache, store, moment),
         turn => Ok(turn),
     }
 }

@@ -8,12 +8,13 @@ use std::alloc::AllocError;
 use tk_cache::Cache;
 use tk_edge::GateTurn;
 use tk_journal::Journal;
-use tk_run_cache::RunCache;
+use tk_pod_cache::PodCache;
+use tk_task_cache::TaskCache;
 
-/// Moves a cache as its gate answered: past so many entries more of a kind, or to a position for it, or to the journal's
+/// Moves a node's cache as its gate answered: past so many entries more of a kind, or to a position for it, or to the journal's
 /// end where that is earlier. The only error is want of memory; the cache has then seen nothing.
 pub(crate) fn move_cache(
-    cache: &mut Cache,
+    cache: &mut PodCache,
     journal: &Journal,
     given: GateTurn,
 ) -> Result<(), AllocError>
@@ -34,7 +35,7 @@ pub(crate) fn move_cache(
 
 /// The same of a controller's cache.
 pub(crate) fn move_run_cache(
-    cache: &mut RunCache,
+    cache: &mut TaskCache,
     journal: &Journal,
     given: GateTurn,
 ) -> Result<(), AllocError>

@@ -88,7 +88,7 @@ impl<K: Clock, H: Host, G: Gate> Node<K, H, G> {
         ensures rests { given ≢ Work → (self.new.host ≡ self.old.host) × (self.new.kubelet ≡ self.old.kubelet) }
     {
         let wrote = self.act(alloc, given, store);
-        self.lag = lag_of(&self.cache, store.journal());
+        self.lag = lag_of(self.cache.cache(), store.journal());
         wrote
     }
 }

@@ -53,7 +53,7 @@ impl<K: Clock, H: Host, G: Gate> Member for Node<K, H, G> {
     fn take_turn(&mut self, alloc: Global, store: &mut Store) -> Result<bool, AllocError> {
         legal_is_planned();
         store.legal();
-        self.lag = lag_of(&self.cache, store.journal());
+        self.lag = lag_of(self.cache.cache(), store.journal());
         let given = self.next();
         let wrote = self.turn(alloc, given, store);
         store.legal();

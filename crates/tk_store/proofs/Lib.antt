@@ -3,6 +3,7 @@ pub mod Admitting
 pub mod Creates
 pub mod Knowing
 pub mod Legality
+pub mod Noted
 pub mod There
 pub mod Walks
 pub mod Writing

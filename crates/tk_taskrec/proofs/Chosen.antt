@@ -27,7 +27,8 @@ use Rattle.tk_journal.specs.Legal.{IsLegal}
 use Rattle.tk_journal.proofs.Search.{task_run_named}
 use Rattle.tk_journal.proofs.Statements as laws_of
 use Rattle.tk_choice.proofs.First.{IsFirst, first_of, none_of}
-use Rattle.tk_taskrec.specs.Choice.{open_from, starts_ready, close_by, make_pod, act_without, act_by_pod, act_by_open, act_of, act_at, choice}
+use Rattle.tk_task_cache.specs.Acting.{open_from}
+use Rattle.tk_taskrec.specs.Choice.{starts_ready, close_by, make_pod, act_without, act_by_pod, act_by_open, act_of, act_at, choice}
 use Rattle.tk_taskrec.specs.Laws.{ChoiceIsFirst, NoneIsLeft}
 use Rattle.tk_taskrec.proofs.Justified.{open_is, none_open, not_over, may_choice}
 

@@ -20,7 +20,8 @@ use Rattle.tk_journal.specs.Plan.{plan_of}
 use Rattle.tk_journal.specs.Rows.{IsJustified}
 use Rattle.tk_journal.specs.TaskRunRows.{IsOpenAttempt, NoneOpen}
 use Rattle.tk_choice.proofs.First.{first_is}
-use Rattle.tk_taskrec.specs.Choice.{open_from, starts_ready, close_by, make_pod, act_without, act_by_pod, act_by_open, act_at, choice_among, choice}
+use Rattle.tk_task_cache.specs.Acting.{open_from}
+use Rattle.tk_taskrec.specs.Choice.{starts_ready, close_by, make_pod, act_without, act_by_pod, act_by_open, act_at, choice_among, choice}
 
 -- open attempts
 

@@ -2,7 +2,7 @@ pub mod Chosen
 pub mod Fit
 pub mod Gathered
 pub mod Justified
-pub mod Places
+pub mod Queued
 pub mod Plans
 pub mod Readings
 pub mod Scripts

@@ -1,5 +1,5 @@
 -- What a task worker does at what it sees: the first act that a TaskRun gives rise to, in order of creation.
-use Rattle.std.specs.Prelude.{ℕ, suc, List, [], ◌∷◌, length, map, Option, Some, None, Bool, true, false, not, ◌||◌, is_some, is_none, nat_le, option_map, if◌then◌else◌}
+use Rattle.std.specs.Prelude.{ℕ, suc, List, length, map, Option, Some, None, Bool, true, false, not, ◌||◌, is_some, nat_le, option_map, if◌then◌else◌}
 use Rattle.tk_types.specs.declared.run.Start.{Start}
 use Rattle.tk_types.specs.declared.run.Start.TheVariants.{Ready, Unstartable}
 use Rattle.tk_names.specs.Children.{pod_name}
@@ -7,18 +7,13 @@ use Rattle.tk_journal.specs.declared.act.Act.{Act}
 use Rattle.tk_journal.specs.declared.act.Act.TheVariants as acts
 use Rattle.tk_journal.specs.declared.act.Closing.TheVariants as closings
 use Rattle.tk_journal.specs.declared.object.Plan.{Plan}
-use Rattle.tk_journal.specs.declared.object.Attempt.{Attempt}
 use Rattle.tk_journal.specs.declared.object.TaskRunState.{TaskRunState}
 use Rattle.tk_journal.specs.declared.object.PodState.{PodState}
 use Rattle.tk_journal.specs.declared.object.EndedPod.{EndedPod}
 use Rattle.tk_journal.specs.History.{View}
 use Rattle.tk_journal.specs.Plan.{plan_of}
+use Rattle.tk_task_cache.specs.Acting.{open_from}
 use Rattle.tk_choice.specs.First.{first_act}
-
--- the place of the first open attempt, counted on from `place`
-abbrev pub open_from : ℕ → List Attempt → Option ℕ
-open_from place [] = None
-open_from place (attempt ∷ attempts) = if is_none attempt.outcome then Some place else open_from (suc place) attempts
 
 abbrev pub starts_ready : Start → Bool
 starts_ready Ready = true

@@ -2,28 +2,18 @@ ghost use Rattle.std.specs.Prelude.{◌≡◌, ◌≤◌, ◌<◌, length, slice
 ghost use Rattle.tk_cache.specs.Views.{seen};
 ghost use Rattle.tk_journal.specs.Plan.{plan_of};
 ghost use Rattle.tk_names.specs.Children.{most_attempts, pod_name as pod_name_of};
-ghost use Rattle.tk_taskrec.specs.Choice.{open_from, starts_ready, close_by, make_pod as pod_of, act_by_pod, act_without, act_of, act_at, act_named, choice};
+ghost use Rattle.tk_task_cache.specs.Acting.{AreQueued};
+ghost use Rattle.tk_taskrec.specs.Choice.{starts_ready, close_by, make_pod as pod_of, act_by_pod, act_without, act_of, act_named, choice};
 ghost use Rattle.tk_taskrec.specs.Fit.{IsFit, AreFit};
 
 use crate::planning::plan;
 use std::alloc::{AllocError, Global};
 use tk_cache::Cache;
-use tk_journal::{Act, Attempt, Closing, PodState, TaskRunState};
+use tk_journal::{Act, Closing, PodState, TaskRunState};
 use tk_names::pod_name;
+use tk_places::Places;
+use tk_task_cache::{TaskCache, open_attempt};
 use tk_types::{Start, Text, TryCopy};
-
-/// The place of the first open attempt.
-fn open_place(attempts: &[Attempt]) -> Option<usize>
-    ensures first { result ≡ open_from 0 attempts.now }
-    ensures within { IfSome result (λ place. place < length attempts.now) }
-{
-    for place in 0..attempts.len() {
-        if attempts[place].outcome.is_none() {
-            return Some(place);
-        }
-    }
-    None
-}
 
 fn is_ready(start: &Start) -> bool
     ensures { result ≡ starts_ready start.now }
@@ -123,34 +113,55 @@ fn of_task_run(
     if task_run.closed.is_some() {
         return Ok(None);
     }
-    match open_place(task_run.attempts.as_slice()) {
+    match open_attempt(task_run.attempts.as_slice()) {
         Some(place) => of_attempt(alloc, cache, name, task_run, place as u32 + 1),
         None => without_attempt(alloc, name, task_run),
     }
 }
 
-/// Of the TaskRun under this name, if the cache has it.
-fn of_name(alloc: Global, cache: &Cache, name: &str) -> Result<Option<Act>, AllocError>
+/// Of the TaskRun at a place.
+fn at_place(alloc: Global, cache: &Cache, place: u64) -> Result<Option<Act>, AllocError>
     requires fit { AreFit (seen cache.now).view }
-    ensures { IfOk result (λ found. found ≡ act_named (seen cache.now).view name.now) }
+    requires within { place < length (seen cache.now).view.task_runs }
+    ensures { IfOk result (λ found. found ≡ option_and_then (act_named (seen cache.now).view) (slice_get (seen cache.now).view.task_runs place)) }
 {
-    match cache.task_run(name) {
-        None => Ok(None),
-        Some(task_run) => of_task_run(alloc, cache, name, task_run),
+    of_task_run(
+        alloc,
+        cache,
+        cache.task_run_name(place),
+        cache.task_run_at(place),
+    )
+}
+
+/// The first act of a TaskRun whose place is in the queue.
+fn first_queued(alloc: Global, cache: &Cache, queue: &Places) -> Result<Option<Act>, AllocError>
+    requires fit { AreFit (seen cache.now).view }
+    requires queued { AreQueued (seen cache.now).view queue.now }
+    ensures { IfOk result (λ found. found ≡ choice (seen cache.now).view) }
+{
+    let end = cache.task_run_count();
+    let mut from = 0;
+    while from < end {
+        let Some(place) = queue.next(from) else {
+            return Ok(None);
+        };
+        if end <= place {
+            return Ok(None);
+        }
+        let found = at_place(alloc, cache, place)?;
+        if found.is_some() {
+            return Ok(found);
+        }
+        from = place + 1;
     }
+    Ok(None)
 }
 
 /// The first act that a cache justifies for a task worker, of TaskRuns in order of creation. The only error is want of
 /// memory.
-#[tactic(auto, using(crate::proofs::Places::choice_later, crate::proofs::Places::choice_here, crate::proofs::Places::choice_end))]
-pub fn choose(alloc: Global, cache: &Cache) -> Result<Option<Act>, AllocError>
+pub fn choose(alloc: Global, cache: &TaskCache) -> Result<Option<Act>, AllocError>
     requires fit { AreFit (seen cache.now).view }
     ensures { IfOk result (λ found. found ≡ choice (seen cache.now).view) }
 {
-    for place in 0..cache.task_run_count() {
-        if let Some(found) = of_name(alloc, cache, cache.task_run_name(place))? {
-            return Ok(Some(found));
-        }
-    }
-    Ok(None)
+    first_queued(alloc, cache.cache(), cache.queue())
 }

@@ -1,16 +1,25 @@
 ghost use Rattle.std.specs.Prelude.{◌≡◌, IfOk, OnErr};
 ghost use Rattle.tk_cache.specs.Fronts.{Shows};
 ghost use Rattle.tk_cache.specs.Views.{seen};
-ghost use Rattle.tk_choice.specs.Took.{Took, TookFirst, entry_of};
+ghost use Rattle.tk_choice.specs.Took.{IsAnswered, MayTry, Took, TookFirst, entry_of};
 ghost use Rattle.tk_journal.specs.declared.entry.Actor.TheVariants.{Tasks};
 ghost use Rattle.tk_taskrec.specs.Choice.{choice};
 
 use crate::choosing::choose;
 use std::alloc::{AllocError, Global};
-use tk_cache::Cache;
 use tk_choice::try_act;
-use tk_journal::Actor;
+use tk_journal::{Act, Actor};
 use tk_store::{Store, Turn};
+use tk_task_cache::TaskCache;
+
+/// Tries an act at the fronts of a task worker's cache, as `try_act` does.
+fn tried(actor: Actor, cache: &TaskCache, store: &mut Store, moment: u64, act: Act) -> Turn
+    requires shows { Shows (seen cache.now) store.old.history }
+    requires may { MayTry (seen cache.now).view actor moment act }
+    ensures { IsAnswered store.old (entry_of actor cache.now.fronts moment act) result store.new }
+{
+    try_act(actor, cache.cache(), store, moment, act)
+}
 
 /// The task worker of this number. It keeps nothing between its turns.
 #[derive(Clone, Copy, Debug, PartialEq, Eq)]
@@ -33,7 +42,7 @@ impl TaskWorker {
     pub fn turn(
         &mut self,
         alloc: Global,
-        cache: &Cache,
+        cache: &TaskCache,
         store: &mut Store,
         moment: u64,
     ) -> Result<Turn, AllocError>
@@ -48,7 +57,7 @@ impl TaskWorker {
             None => Ok(Turn::Idle),
             Some(act) => {
                 let actor = Actor::Tasks(self.number);
-                Ok(try_act(actor, cache, store, moment, act))
+                Ok(tried(actor, cache, store, moment, act))
             }
         }
     }

@@ -6,23 +6,23 @@ ghost use Rattle.tk_worker_tests.specs.Place.{BothShow, Grows};
 
 use std::alloc::{AllocError, Global};
 use tk_cache::laws::{grown, nothing_shows};
-use tk_run_cache::RunCache;
 use tk_runrec::RunWorker;
 use tk_store::{Store, Turn};
+use tk_task_cache::TaskCache;
 use tk_taskrec::TaskWorker;
 use tk_types::{Asked, Kind};
 use tk_user::{AskAnswer, ask};
 
 /// A cache that has seen nothing of a store yet.
-fn fresh(alloc: Global, store: &Store) -> RunCache
+fn fresh(alloc: Global, store: &Store) -> TaskCache
     ensures { Shows (seen result) store.now.history }
 {
     nothing_shows();
-    RunCache::empty(alloc)
+    TaskCache::empty(alloc)
 }
 
 /// Shows a cache all that is written.
-fn deliver(cache: &mut RunCache, store: &Store) -> Result<(), AllocError>
+fn deliver(cache: &mut TaskCache, store: &Store) -> Result<(), AllocError>
     requires { Shows (seen cache.old) store.now.history }
     ensures { OnOk result (Shows (seen cache.new) store.now.history) }
 {
@@ -34,7 +34,7 @@ fn deliver(cache: &mut RunCache, store: &Store) -> Result<(), AllocError>
 }
 
 /// Shows a cache a kind as it stood at a position, or at the end.
-fn list(cache: &mut RunCache, store: &Store, kind: Kind, position: u64) -> Result<(), AllocError>
+fn list(cache: &mut TaskCache, store: &Store, kind: Kind, position: u64) -> Result<(), AllocError>
     requires { Shows (seen cache.old) store.now.history }
     ensures { OnOk result (Shows (seen cache.new) store.now.history) }
 {
@@ -49,7 +49,7 @@ fn turn(
     alloc: Global,
     worker: Worker,
     number: u32,
-    cache: &RunCache,
+    cache: &TaskCache,
     store: &mut Store,
     moment: u64,
 ) -> Result<Turn, AllocError>
@@ -57,8 +57,8 @@ fn turn(
     ensures { OnOk result (Grows store.old.history store.new.history) }
 {
     match worker {
-        Worker::Runs => RunWorker::new(number).turn(alloc, cache, store, moment),
-        Worker::Tasks => TaskWorker::new(number).turn(alloc, cache.cache(), store, moment),
+        Worker::Runs => RunWorker::new(number).turn(alloc, cache.runs(), store, moment),
+        Worker::Tasks => TaskWorker::new(number).turn(alloc, cache, store, moment),
     }
 }
 
@@ -94,8 +94,8 @@ pub(crate) enum Worker {
 #[derive(Drop)]
 pub(crate) struct Place {
     store: Store,
-    first: RunCache,
-    second: RunCache,
+    first: TaskCache,
+    second: TaskCache,
     moment: u64,
 }
 

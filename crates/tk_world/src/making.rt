@@ -8,8 +8,8 @@ ghost use Rattle.tk_world.specs.Whole.{AreNewCaches, AreNewNodes};
 
 use crate::node::Node;
 use std::alloc::{AllocError, Global};
-use tk_run_cache::RunCache;
 use tk_script::PodScript;
+use tk_task_cache::TaskCache;
 use tk_types::{List, TryCopy};
 
 /// A copy of a pod's script.
@@ -38,12 +38,12 @@ pub(crate) fn copy_scripts(
 }
 
 /// So many caches that have seen nothing. The only error is want of memory.
-pub(crate) fn new_caches(alloc: Global, count: u32) -> Result<Vec<RunCache>, AllocError>
+pub(crate) fn new_caches(alloc: Global, count: u32) -> Result<Vec<TaskCache>, AllocError>
     ensures { IfOk result (λ caches. AreNewCaches count caches.items) }
 {
     let mut caches = Vec::new(alloc);
     for place in 0..count {
-        caches.push(RunCache::empty(alloc))?;
+        caches.push(TaskCache::empty(alloc))?;
     }
     Ok(caches)
 }

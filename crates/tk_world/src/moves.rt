@@ -8,7 +8,8 @@ ghost use Rattle.tk_world.specs.Moves.{moved};
 use std::alloc::AllocError;
 use tk_cache::Cache;
 use tk_journal::Journal;
-use tk_run_cache::RunCache;
+use tk_pod_cache::PodCache;
+use tk_task_cache::TaskCache;
 use tk_types::Kind;
 
 /// How a cache is moved.
@@ -36,8 +37,26 @@ pub fn deliver_all(cache: &mut Cache, journal: &Journal) -> Result<(), AllocErro
     cache.relist(journal, Kind::Pods, end)
 }
 
-/// Moves a cache. Without memory the cache is empty.
-pub(crate) fn move_cache(cache: &mut Cache, journal: &Journal, how: Move) -> Result<(), AllocError>
+/// Moves all three fronts of a node's cache to the journal's end. Without memory the cache is empty.
+fn deliver_all_pods(cache: &mut PodCache, journal: &Journal) -> Result<(), AllocError>
+    requires legal { IsLegal journal.now.history }
+    requires shows { Shows (seen cache.old) journal.now.history }
+    ensures fronts { OnOk result (cache.new.fronts ≡ at_end journal.now.history) }
+    ensures shows { OnOk result (Shows (seen cache.new) journal.now.history) }
+    ensures err { OnErr result (Shows (seen cache.new) []) }
+{
+    let end = journal.len();
+    cache.relist(journal, Kind::Runs, end)?;
+    cache.relist(journal, Kind::TaskRuns, end)?;
+    cache.relist(journal, Kind::Pods, end)
+}
+
+/// Moves a node's cache. Without memory the cache is empty.
+pub(crate) fn move_cache(
+    cache: &mut PodCache,
+    journal: &Journal,
+    how: Move,
+) -> Result<(), AllocError>
     requires legal { IsLegal journal.now.history }
     requires shows { Shows (seen cache.old) journal.now.history }
     ensures fronts { OnOk result (cache.new.fronts ≡ moved how journal.now.history cache.old.fronts) }
@@ -46,13 +65,13 @@ pub(crate) fn move_cache(cache: &mut Cache, journal: &Journal, how: Move) -> Res
 {
     match how {
         Move::Deliver { kind, n } => cache.deliver(journal, kind, n),
-        Move::DeliverAll => deliver_all(cache, journal),
+        Move::DeliverAll => deliver_all_pods(cache, journal),
         Move::Relist { kind, position } => cache.relist(journal, kind, position.min(journal.len())),
     }
 }
 
 /// Moves all three fronts of a controller's cache to the journal's end. Without memory the cache is empty.
-fn deliver_all_runs(cache: &mut RunCache, journal: &Journal) -> Result<(), AllocError>
+fn deliver_all_runs(cache: &mut TaskCache, journal: &Journal) -> Result<(), AllocError>
     requires legal { IsLegal journal.now.history }
     requires shows { Shows (seen cache.old) journal.now.history }
     ensures fronts { OnOk result (cache.new.fronts ≡ at_end journal.now.history) }
@@ -67,7 +86,7 @@ fn deliver_all_runs(cache: &mut RunCache, journal: &Journal) -> Result<(), Alloc
 
 /// Moves a controller's cache. Without memory the cache is empty.
 pub(crate) fn move_run_cache(
-    cache: &mut RunCache,
+    cache: &mut TaskCache,
     journal: &Journal,
     how: Move,
 ) -> Result<(), AllocError>

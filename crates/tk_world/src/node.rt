@@ -9,8 +9,8 @@ ghost use Rattle.tk_world.specs.Nodes.{IsNewNode, IsRestarted, NodePlays, hosts_
 
 use crate::making::copy_scripts;
 use std::alloc::{AllocError, Global};
-use tk_cache::Cache;
 use tk_kubelet::{Kubelet, KubeletTurn};
+use tk_pod_cache::PodCache;
 use tk_script::{PodScript, ScriptHost};
 use tk_store::Store;
 use tk_types::{List, Text};
@@ -21,7 +21,7 @@ pub(crate) const ROOT: &str = "/work";
 /// A kubelet with its cache and its host. Its life stands beside it, since it doesn't tell it.
 #[derive(Drop)]
 pub(crate) struct Node {
-    pub(crate) cache: Cache,
+    pub(crate) cache: PodCache,
     pub(crate) life: u32,
     pub(crate) kubelet: Kubelet,
     pub(crate) host: ScriptHost,
@@ -41,7 +41,7 @@ impl Node {
         )?;
         let root = Text::from_str(alloc, ROOT)?;
         Ok(Node {
-            cache: Cache::empty(alloc),
+            cache: PodCache::empty(alloc),
             life: 1,
             kubelet: Kubelet::new(alloc, number, 1, root),
             host,
@@ -84,7 +84,7 @@ impl Node {
         let root = Text::from_str(alloc, ROOT)?;
         self.life += 1;
         self.kubelet = Kubelet::new(alloc, number, self.life, root);
-        self.cache = Cache::empty(alloc);
+        self.cache = PodCache::empty(alloc);
         Ok(())
     }
 }

@@ -27,10 +27,10 @@ use std::marker::Model;
 use tk_cache::Cache;
 use tk_journal::{Admitted, Journal};
 use tk_kubelet::{Kubelet, KubeletTurn};
-use tk_run_cache::RunCache;
 use tk_runrec::RunWorker;
 use tk_script::PodScript;
 use tk_store::{Store, Turn};
+use tk_task_cache::TaskCache;
 use tk_taskrec::TaskWorker;
 use tk_types::{Asked, Event, List, Taker, Text, Viewer};
 use tk_user::{AskAnswer, ask};
@@ -42,7 +42,7 @@ pub struct World {
     alloc: Global,
     store: Store,
     clock: u64,
-    controllers: Vec<RunCache>,
+    controllers: Vec<TaskCache>,
     nodes: Vec<Node>,
     scripts: List<PodScript>,
     watch: Cache,
@@ -169,7 +169,7 @@ impl World {
     {
         let cache = &self.controllers[i as usize];
         let mut worker = RunWorker::new(i);
-        with_room(worker.turn(self.alloc, cache, &mut self.store, self.clock)?)
+        with_room(worker.turn(self.alloc, cache.runs(), &mut self.store, self.clock)?)
     }
 
     /// The task worker's turn of a controller.
@@ -182,7 +182,7 @@ impl World {
     {
         let cache = &self.controllers[i as usize];
         let mut worker = TaskWorker::new(i);
-        with_room(worker.turn(self.alloc, cache.cache(), &mut self.store, self.clock)?)
+        with_room(worker.turn(self.alloc, cache, &mut self.store, self.clock)?)
     }
 
     /// A kubelet's turn.
@@ -219,7 +219,7 @@ impl World {
         ensures { Goes (events.Restart (viewers.Controller i) ∷ []) self.old self.new }
     {
         let cache = &mut self.controllers[i as usize];
-        *cache = RunCache::empty(self.alloc);
+        *cache = TaskCache::empty(self.alloc);
     }
 
     /// A kubelet comes back with nothing, in its next life, over the same host; in its last life nothing changes.

@@ -20,8 +20,8 @@ pub returns-in_err-ran-clause-memory : goal.returns-in_err-ran-clause-memory
 returns-in_err-ran-clause-memory g c =
     on_err _ c.from_residual.result (run_missed (seat_at c.args.me c.args.root.now (seen c.args.cache.now) c.args.moment) c.args.held.now.items c.run_pods.new.held.items (host_at g.H.Host.told g.H.Host.killed g.H.Host.faults g.H.Host.watches g.H.Host.files g.H.Host.plays c.args.host.now) (host_at g.H.Host.told g.H.Host.killed g.H.Host.faults g.H.Host.watches g.H.Host.files g.H.Host.plays c.run_pods.new.host) record { moves = c.run_pods.ensures.moves; stays = c.run_pods.ensures.ready; failed = c.run_pods.ensures.failed; only = c.run_pods.ensures.only; killed = c.run_pods.ensures.killed; still = c.run_pods.ensures.still; spares = c.run_pods.ensures.spares; plays = c.run_pods.ensures.plays; few = c.run_pods.ensures.few } c.args.store.now)
 
-pub first_end-requires : goal.first_end-requires
-first_end-requires g c =
+pub first_end-requires-clause-readable : goal.first_end-requires-clause-readable
+first_end-requires-clause-readable g c =
     λ place pod at. let kept = c.run_pods.ensures.moves.keeps place pod (subst (λ (ps : List HeldPod). slice_get ps place ≡ Some pod) c.as_slice.ensures.value at) in record { planned = kept.planned; within = kept.within }
 
 pub end_pod-requires-clause-met : goal.end_pod-requires-clause-met

@@ -1,21 +1,17 @@
-use Rattle.std.proofs.Common.{◌≡◌, ℕ, ◌<◌, length, Some, None, sym, ◌∙◌, subst}
-use Rattle.tk_cache.specs.Views.{seen}
-use Rattle.tk_taskrec.specs.Choice.{act_named}
-use Rattle.tk_taskrec.proofs.Places.{choice_here, choice_later}
+use Rattle.std.proofs.Common.{◌≡◌, Option, sym, subst}
+use Rattle.std.specs.Prelude.{IfOk}
+use Rattle.tk_journal.specs.declared.act.Act.{Act}
+use Rattle.tk_cache.specs.Views.{Kept, seen}
+use Rattle.tk_task_cache.specs.Acting.{AreQueued}
+use Rattle.tk_taskrec.specs.Choice.{choice}
+use Rattle.tk_taskrec.specs.Fit.{AreFit}
 use Rattle.tk_taskrec.proofs.choosing.choose.Goals as goal
 
-pub returns-in-Some : goal.returns-in-Some
-returns-in-Some c =
-    let view = (seen c.args.cache.now).view in
-    let name = c.task_run_name.result.now in
-    let below : c.loop-place.place < length view.task_runs = subst (λ (n : ℕ). c.loop-place.place < n) c.task_run_count-place-end.ensures c.loop-place-test.true in
-    let gives : act_named view name ≡ Some c.in-Some.found = sym c.in_ok-found.ensures ∙ c.in-Some.is in
-    sym (c.loop-place.invariant ∙ choice_here view c.loop-place.place name c.in-Some.found below c.task_run_name.ensures gives)
+pub first_queued-requires-clause-fit : goal.first_queued-requires-clause-fit
+first_queued-requires-clause-fit c = subst (λ (k : Kept). AreFit (seen k).view) (sym c.cache.ensures) c.requires.fit
 
-pub loop-place-preserved : goal.loop-place-preserved
-loop-place-preserved c =
-    let view = (seen c.args.cache.now).view in
-    let name = c.task_run_name.result.now in
-    let below : c.loop-place.place < length view.task_runs = subst (λ (n : ℕ). c.loop-place.place < n) c.task_run_count-place-end.ensures c.loop-place-test.true in
-    let none : act_named view name ≡ None = sym c.in_ok-found.ensures ∙ c.in_default.is in
-    c.loop-place.invariant ∙ choice_later view c.loop-place.place name below c.task_run_name.ensures none
+pub first_queued-requires-clause-queued : goal.first_queued-requires-clause-queued
+first_queued-requires-clause-queued c = subst (λ (k : Kept). AreQueued (seen k).view c.queue.result.now) (sym c.cache.ensures) c.queue.ensures
+
+pub returns : goal.returns
+returns c = subst (λ (k : Kept). IfOk c.first_queued.result (λ (found : Option Act). found ≡ choice (seen k).view)) c.cache.ensures c.first_queued.ensures

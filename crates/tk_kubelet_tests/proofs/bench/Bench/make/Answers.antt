@@ -7,7 +7,7 @@ use Rattle.tk_kubelet_tests.proofs.bench.Bench.make.Goals as goal
 
 pub returns : goal.returns
 returns c =
-    made_stands c.args.self.now.life c.args.self.now.cache c.args.self.now.kubelet c.args.self.now.host c.others_keep.ensures c.grown.ensures c.args.self.now.moment
+    made_stands c.args.self.now.life c.args.self.now.cache c.args.self.now.kubelet c.args.self.now.host c.others_keep.ensures c.grown.ensures (seen c.in_ok-tasks.tasks) c.args.self.now.moment
     c.args.self.now.store c.turn.new.store c.in_ok-turn.field-0
-    (subst (λ (n : ℕ). TookFirst (seen c.args.self.now.cache) (actors.Tasks n) c.args.self.now.moment c.args.self.now.store c.in_ok-turn.field-0 c.turn.new.store) c.new-worker.ensures c.in_ok-turn.ensures.first)
+    (subst (λ (n : ℕ). TookFirst (seen c.in_ok-tasks.tasks) (actors.Tasks n) c.args.self.now.moment c.args.self.now.store c.in_ok-turn.field-0 c.turn.new.store) c.new-worker.ensures c.in_ok-turn.ensures.first)
     c.legal.ensures c.requires

@@ -8,8 +8,8 @@ use Rattle.tk_taskrec.proofs.worker.TaskWorker.turn.Goals as goal
 pub choose-requires : goal.choose-requires
 choose-requires c = record { fit = fit_seen (seen c.args.cache.now) c.args.store.now.history c.legal.ensures c.requires.shows }
 
-pub try_act-requires-clause-may : goal.try_act-requires-clause-may
-try_act-requires-clause-may c =
+pub tried-requires-clause-may : goal.tried-requires-clause-may
+tried-requires-clause-may c =
     let found : choice (seen c.args.cache.now).view ≡ Some c.in-Some.act = sym c.in_ok-choose.ensures ∙ c.in-Some.is in
     choice_may (seen c.args.cache.now) c.args.store.now.history c.args.self.now.number c.args.moment c.in-Some.act c.legal.ensures c.requires.shows found
 
@@ -21,5 +21,5 @@ returns-in-None-clause-first c =
 pub returns-in-Some-clause-first : goal.returns-in-Some-clause-first
 returns-in-Some-clause-first c =
     let found : choice (seen c.args.cache.now).view ≡ Some c.in-Some.act = sym c.in_ok-choose.ensures ∙ c.in-Some.is in
-    took_choice (seen c.args.cache.now) c.args.self.now.number c.args.moment c.args.store.now c.try_act.result c.try_act.new.store c.legal.ensures c.requires.shows
-    (took_act (seen c.args.cache.now) c.args.self.now.number c.args.moment c.in-Some.act c.args.store.now c.try_act.result c.try_act.new.store found c.try_act.ensures)
+    took_choice (seen c.args.cache.now) c.args.self.now.number c.args.moment c.args.store.now c.tried.result c.tried.new.store c.legal.ensures c.requires.shows
+    (took_act (seen c.args.cache.now) c.args.self.now.number c.args.moment c.in-Some.act c.args.store.now c.tried.result c.tried.new.store found c.tried.ensures)

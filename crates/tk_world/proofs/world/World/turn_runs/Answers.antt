@@ -6,7 +6,7 @@ use Rattle.tk_types.specs.declared.scenario.Taker.TheVariants as takers
 use Rattle.tk_journal.specs.declared.entry.Actor.TheVariants as actors
 use Rattle.tk_store.specs.declared.turn.Turn.{Turn}
 use Rattle.tk_store.specs.declared.turn.Turn.TheVariants as turns
-use Rattle.tk_cache.specs.Views.{seen}
+use Rattle.tk_cache.specs.Views.{Kept, seen}
 use Rattle.tk_choice.specs.Took.{TookFirst}
 use Rattle.tk_world.specs.Goes.{Goes}
 use Rattle.tk_world.specs.Stepped.{WorkerAnswers}
@@ -21,7 +21,7 @@ returns-clause-ok c =
     (on_ok_weaker c.with_room.result (λ room.
     runs_worker_goes c.self.inside.store c.turn.new.store c.self.inside.clock c.self.inside.controllers.items c.self.inside.nodes.items c.self.inside.scripts c.self.inside.watch (stands_inside (whole_of c.self.inside.store c.self.inside.clock c.self.inside.controllers.items c.self.inside.nodes.items c.self.inside.scripts c.self.inside.watch) c.args.self.now c.self.view_is c.requires.world) c.args.i c.index-cache.result.now c.in_ok-turn.field-0
     (controller_at (whole_of c.self.inside.store c.self.inside.clock c.self.inside.controllers.items c.self.inside.nodes.items c.self.inside.scripts c.self.inside.watch) c.args.self.now c.self.view_is c.requires.world c.args.i c.index-cache.result.now c.requires.place c.index-cache.ensures) room
-    (subst (λ (n : ℕ). TookFirst (seen c.index-cache.result.now) (actors.Runs n) c.self.inside.clock c.self.inside.store c.in_ok-turn.field-0 c.turn.new.store) c.new-worker.ensures c.in_ok-turn.ensures.first))
+    (subst (λ (n : ℕ). TookFirst (seen c.index-cache.result.now) (actors.Runs n) c.self.inside.clock c.self.inside.store c.in_ok-turn.field-0 c.turn.new.store) c.new-worker.ensures (subst (λ (k : Kept). TookFirst (seen k) (actors.Runs c.new-worker.result.number) c.self.inside.clock c.self.inside.store c.in_ok-turn.field-0 c.turn.new.store) c.runs.ensures c.in_ok-turn.ensures.first)))
     c.with_room.ensures.room)
 
 pub returns-clause-answer : goal.returns-clause-answer
@@ -30,6 +30,6 @@ returns-clause-answer c =
     (if_both c.with_room.result c.with_room.ensures.ok c.with_room.ensures.room (λ turn same room. record {
       cache = c.index-cache.result.now;
       at = (controller_at (whole_of c.self.inside.store c.self.inside.clock c.self.inside.controllers.items c.self.inside.nodes.items c.self.inside.scripts c.self.inside.watch) c.args.self.now c.self.view_is c.requires.world c.args.i c.index-cache.result.now c.requires.place c.index-cache.ensures);
-      took = subst (λ (t : Turn). TookFirst (seen c.index-cache.result.now) (actors.Runs c.args.i) c.self.inside.clock c.self.inside.store t c.turn.new.store) (sym same) (subst (λ (n : ℕ). TookFirst (seen c.index-cache.result.now) (actors.Runs n) c.self.inside.clock c.self.inside.store c.in_ok-turn.field-0 c.turn.new.store) c.new-worker.ensures c.in_ok-turn.ensures.first);
+      took = subst (λ (t : Turn). TookFirst (seen c.index-cache.result.now) (actors.Runs c.args.i) c.self.inside.clock c.self.inside.store t c.turn.new.store) (sym same) (subst (λ (n : ℕ). TookFirst (seen c.index-cache.result.now) (actors.Runs n) c.self.inside.clock c.self.inside.store c.in_ok-turn.field-0 c.turn.new.store) c.new-worker.ensures (subst (λ (k : Kept). TookFirst (seen k) (actors.Runs c.new-worker.result.number) c.self.inside.clock c.self.inside.store c.in_ok-turn.field-0 c.turn.new.store) c.runs.ensures c.in_ok-turn.ensures.first));
       room = subst (λ (t : Turn). t ≢ turns.Memory) (sym same) room;
     }))

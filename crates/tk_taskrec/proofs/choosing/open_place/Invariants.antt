@@ -1,6 +1,0 @@
-use Rattle.std.proofs.Common.{◌≡◌, drop}
-use Rattle.tk_taskrec.specs.Choice.{open_from}
-use Rattle.tk_taskrec.proofs.choosing.open_place.Given as goal
-
-abbrev pub invariant-loop-place : goal.invariant-loop-place
-invariant-loop-place l = open_from 0 l.fn.attempts ≡ open_from l.place (drop l.place l.fn.attempts)
