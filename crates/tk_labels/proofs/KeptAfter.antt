@@ -45,7 +45,7 @@ none_new : (t : ℕ) (os : List (Option Outcome)) (q a m : ℕ) → q ≢ t → 
 none_new t os q a zero other = refl
 none_new t os q a (suc m) other = rw (nat_differ t q (λ same. other (sym same))) (none_new t os q (a + 1) m other)
 
-others_given : (t : ℕ) (os : List (Option Outcome)) (q : ℕ) (cs : List Child) → q ≢ t → children_at (cs ++ children_with t os) q ≡ children_at cs q
+pub others_given : (t : ℕ) (os : List (Option Outcome)) (q : ℕ) (cs : List Child) → q ≢ t → children_at (cs ++ children_with t os) q ≡ children_at cs q
 others_given t os q cs other =
     filter-append (λ (c : Child). nat_eq c.task q) cs (children_with t os)
     ∙ (ap (λ (ds : List Child). children_at cs q ++ ds) (none_new t os q 0 (length os) other) ∙ append-nil (children_at cs q))

@@ -11,3 +11,5 @@ pub mod SkippedBare
 pub mod WalkStep
 pub mod Walks
 pub mod WithStop
+pub mod Spanned
+pub mod Unmoved

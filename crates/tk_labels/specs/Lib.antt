@@ -2,3 +2,4 @@ pub mod Change
 pub mod Kept
 pub mod Local
 pub mod Reached
+pub mod Spans

@@ -1,7 +1,7 @@
 //! One task of `tasks` judged by its children, by its parents' labels and by its parents' results.
 
 ghost use Rattle.std.specs.Prelude.{◌≡◌, ◌<◌, ◌+◌, ◌++◌, ◌^◌, All, List as Items, Option, Some, flat_map, length, map, slice_get, IfOk, OnOk};
-ghost use Rattle.std.specs.List.{list_all};
+ghost use Rattle.std.specs.List.{list_all, list_any};
 ghost use Rattle.tk_types.specs.declared.run.Child.{Child as ChildRecord};
 ghost use Rattle.tk_types.specs.declared.task.PipelineTask.{PipelineTask as Task};
 ghost use Rattle.tk_types.specs.declared.value.Param.{Param as ParamRecord};
@@ -13,7 +13,7 @@ ghost use Rattle.tk_labels.specs.Kept.{of_run};
 ghost use Rattle.tk_labels.specs.Local.{results_at};
 ghost use Rattle.tk_verdict.specs.Bindings.{combinations_in as combinations_of};
 ghost use Rattle.tk_verdict.specs.Gathered.{good_row as row_of_good, labelled};
-ghost use Rattle.tk_verdict.specs.Facts.{children_at, first_stop};
+ghost use Rattle.tk_verdict.specs.Facts.{children_at, first_stop, is_running};
 ghost use Rattle.tk_verdict.specs.Good.{is_good_at as is_good_of_place};
 ghost use Rattle.tk_verdict.specs.Labels.{bindings_at as bindings_of_place, label_by as label_of, verdict_line};
 ghost use Rattle.tk_verdict.specs.Own.{own_in};
@@ -23,42 +23,44 @@ ghost use Rattle.tk_verdict.specs.Verdict.{label_at as label_of_place};
 ghost use Rattle.tk_verdict.specs.WellFormed.{IsWellFormed};
 ghost use Rattle.tk_verdict.specs.Words.{task_env};
 
+use crate::cases::running_runs;
 use crate::locality::parents_suffice;
+use crate::spans::{Kids, are_all_good};
 use std::alloc::{AllocError, Global};
 use tk_bind::{EnvIndex, Given, Lookup};
 use tk_early::task_words;
 use tk_types::{Binding, Child, Facts, List, PipelineTask, SkipReason, Stop, TaskBody, Verdict};
 use tk_verdict::judging::{
-    Groups, Own, add_of_task, are_all_good, bindings_in, is_blocked, is_skipped_by_when, label_at,
-    label_by, lacks_result, own_of, own_row,
+    Own, add_of_task, bindings_in, is_blocked, is_skipped_by_when, label_at, label_by,
+    lacks_result, own_of, own_row,
 };
 
 /// Whether the task at a place has children and all are good.
-pub(crate) fn is_good_at(run: &Facts, groups: &Groups, place: u32) -> bool
+pub(crate) fn is_good_at(run: &Facts, kids: &Kids, place: u32) -> bool
     requires { length run.now.spec.tasks + length run.now.spec.finally < 2 ^ 63 }
-    ensures { result ≡ is_good_of_place (of_run run.now groups.now) place }
+    ensures { result ≡ is_good_of_place (of_run run.now kids.now) place }
 {
     match run.spec.task(place as usize) {
-        Some(task) => are_all_good(groups.at(place), task.ignore_failure),
+        Some(task) => are_all_good(kids.at(place), task.ignore_failure),
         None => false,
     }
 }
 
 /// Whether the parent at a place is good, or skipped by its own guard.
-fn is_good(run: &Facts, groups: &Groups, labels: &[Verdict], place: u32) -> bool
+fn is_good(run: &Facts, kids: &Kids, labels: &[Verdict], place: u32) -> bool
     requires { length run.now.spec.tasks + length run.now.spec.finally < 2 ^ 63 }
-    ensures { result ≡ is_good_parent (of_run run.now groups.now) (place, label_of_place labels.now place) }
+    ensures { result ≡ is_good_parent (of_run run.now kids.now) (place, label_of_place labels.now place) }
 {
-    is_good_at(run, groups, place) || is_skipped_by_when(label_at(labels, place))
+    is_good_at(run, kids, place) || is_skipped_by_when(label_at(labels, place))
 }
 
 /// Whether all parents are good, or skipped by their own guards.
-fn are_good(run: &Facts, groups: &Groups, labels: &[Verdict], parents: &[u32]) -> bool
+fn are_good(run: &Facts, kids: &Kids, labels: &[Verdict], parents: &[u32]) -> bool
     requires { length run.now.spec.tasks + length run.now.spec.finally < 2 ^ 63 }
-    ensures { result ≡ list_all (λ p. is_good_parent (of_run run.now groups.now) (p, label_of_place labels.now p)) parents.now }
+    ensures { result ≡ list_all (λ p. is_good_parent (of_run run.now kids.now) (p, label_of_place labels.now p)) parents.now }
 {
     for place in parents {
-        if !is_good(run, groups, labels, *place) {
+        if !is_good(run, kids, labels, *place) {
             return false;
         }
     }
@@ -70,29 +72,30 @@ fn add_at(
     alloc: Global,
     made: &mut List<Given>,
     run: &Facts,
-    groups: &Groups,
+    kids: &Kids,
     place: u32,
 ) -> Result<(), AllocError>
     requires { place < length run.now.spec.tasks }
-    ensures { OnOk result (made.new ≡ made.old ++ results_at (of_run run.now groups.now) place) }
+    ensures { OnOk result (made.new ≡ made.old ++ results_at (of_run run.now kids.now) place) }
 {
     let task = &run.spec.tasks.as_slice()[place as usize];
-    add_of_task(alloc, made, task, groups.at(place))
+    let children = kids.each(alloc, place)?;
+    add_of_task(alloc, made, task, children.as_slice())
 }
 
 /// The results of the tasks at some places of `tasks`.
 fn results_of(
     alloc: Global,
     run: &Facts,
-    groups: &Groups,
+    kids: &Kids,
     places: &[u32],
 ) -> Result<List<Given>, AllocError>
     requires { All (λ p. p < length run.now.spec.tasks) places.now }
-    ensures { IfOk result (λ results. results ≡ flat_map (results_at (of_run run.now groups.now)) places.now) }
+    ensures { IfOk result (λ results. results ≡ flat_map (results_at (of_run run.now kids.now)) places.now) }
 {
     let mut made = List::new(alloc);
     for place in places {
-        add_at(alloc, &mut made, run, groups, *place)?;
+        add_at(alloc, &mut made, run, kids, *place)?;
     }
     Ok(made)
 }
@@ -101,18 +104,18 @@ fn results_of(
 pub(crate) fn own_at(
     alloc: Global,
     run: &Facts,
-    groups: &Groups,
+    kids: &Kids,
     parents: &[u32],
     place: u32,
 ) -> Result<Own, AllocError>
-    requires formed { IsWellFormed (of_run run.now groups.now) }
+    requires formed { IsWellFormed (of_run run.now kids.now) }
     requires parents { parents.now ≡ parents_of run.now.spec.tasks place }
     requires exists { place < length run.now.spec.tasks }
-    ensures { IfOk result (λ own. (task : Task) → slice_get run.now.spec.tasks place ≡ Some task → own ≡ own_in (task_env (of_run run.now groups.now) task) task) }
+    ensures { IfOk result (λ own. (task : Task) → slice_get run.now.spec.tasks place ≡ Some task → own ≡ own_in (task_env (of_run run.now kids.now) task) task) }
 {
     parents_suffice();
     let task = &run.spec.tasks.as_slice()[place as usize];
-    let results = results_of(alloc, run, groups, parents)?;
+    let results = results_of(alloc, run, kids, parents)?;
     let index = EnvIndex::new(alloc, run.spec.params.as_slice(), results.as_slice(), &[])?;
     let words = task_words(alloc, &run.spec, task)?;
     let lookup = Lookup::new(&index, words.as_slice());
@@ -120,43 +123,25 @@ pub(crate) fn own_at(
 }
 
 /// The bindings of the task at a place of `tasks`, by its parents' results alone. The only error is want of memory.
-fn bindings_at(
+pub(crate) fn bindings_at(
     alloc: Global,
     run: &Facts,
-    groups: &Groups,
+    kids: &Kids,
     parents: &[u32],
     place: u32,
 ) -> Result<Option<List<Binding>>, AllocError>
-    requires formed { IsWellFormed (of_run run.now groups.now) }
+    requires formed { IsWellFormed (of_run run.now kids.now) }
     requires parents { parents.now ≡ parents_of run.now.spec.tasks place }
     requires exists { place < length run.now.spec.tasks }
-    ensures { IfOk result (λ made. (labels : Items VerdictOf) → made ≡ bindings_of_place (of_run run.now groups.now) labels place) }
+    ensures { IfOk result (λ made. (labels : Items VerdictOf) → made ≡ bindings_of_place (of_run run.now kids.now) labels place) }
 {
     parents_suffice();
     let task = &run.spec.tasks.as_slice()[place as usize];
-    let results = results_of(alloc, run, groups, parents)?;
+    let results = results_of(alloc, run, kids, parents)?;
     let index = EnvIndex::new(alloc, run.spec.params.as_slice(), results.as_slice(), &[])?;
     let words = task_words(alloc, &run.spec, task)?;
     let lookup = Lookup::new(&index, words.as_slice());
     bindings_in(alloc, &lookup, task)
-}
-
-/// The same, by the children of the run.
-pub(crate) fn bindings_of(
-    alloc: Global,
-    run: &Facts,
-    children: &[Child],
-    parents: &[u32],
-    place: u32,
-) -> Result<Option<List<Binding>>, AllocError>
-    requires formed { IsWellFormed (of_run run.now children.now) }
-    requires parents { parents.now ≡ parents_of run.now.spec.tasks place }
-    requires exists { place < length run.now.spec.tasks }
-    ensures { IfOk result (λ made. (labels : Items VerdictOf) → made ≡ bindings_of_place (of_run run.now children.now) labels place) }
-{
-    let total = run.spec.tasks.len() + run.spec.finally.len();
-    let groups = Groups::new(alloc, total, children)?;
-    bindings_at(alloc, run, &groups, parents, place)
 }
 
 /// The label of a task that has a parent by which it is skipped.
@@ -182,22 +167,23 @@ fn blocked_label(
 fn waiting_label(
     alloc: Global,
     run: &Facts,
-    groups: &Groups,
+    kids: &Kids,
+    children: &[&Child],
     parents: &[u32],
     place: u32,
 ) -> Result<Verdict, AllocError>
-    requires formed { IsWellFormed (of_run run.now groups.now) }
+    requires formed { IsWellFormed (of_run run.now kids.now) }
+    requires children { map (λ c. c.now) children.now ≡ children_at kids.now place }
     requires parents { parents.now ≡ parents_of run.now.spec.tasks place }
     requires exists { place < length run.now.spec.tasks }
     ensures { IfOk result (λ label. (task : Task) → slice_get run.now.spec.tasks place ≡ Some task
-        → label ≡ label_of (children_at groups.now place) (combinations_of (task_env (of_run run.now groups.now) task) task) None (first_stop run.now) Waits) }
+        → label ≡ label_of (children_at kids.now place) (combinations_of (task_env (of_run run.now kids.now) task) task) None (first_stop run.now) Waits) }
 {
-    let children = groups.at(place);
     let stop = run.stops.as_slice().first().copied();
     if children.is_empty() {
         return label_by(alloc, children, &None, None, stop, Verdict::Waits);
     }
-    let own = own_at(alloc, run, groups, parents, place)?;
+    let own = own_at(alloc, run, kids, parents, place)?;
     label_by(
         alloc,
         children,
@@ -228,31 +214,32 @@ fn good_row(
     own_row(alloc, body, own)
 }
 
-/// The label of the task at a place of `tasks`, by its parents' labels. The only error is want of memory.
-pub(crate) fn judged(
+/// The label of the task at a place of `tasks` with these children, by its parents' labels.
+fn judged_with(
     alloc: Global,
     run: &Facts,
-    groups: &Groups,
+    kids: &Kids,
+    children: &[&Child],
     labels: &[Verdict],
     parents: &[u32],
     place: u32,
 ) -> Result<Verdict, AllocError>
-    requires formed { IsWellFormed (of_run run.now groups.now) }
+    requires formed { IsWellFormed (of_run run.now kids.now) }
+    requires children { map (λ c. c.now) children.now ≡ children_at kids.now place }
     requires parents { parents.now ≡ parents_of run.now.spec.tasks place }
     requires exists { place < length run.now.spec.tasks }
-    ensures { IfOk result (λ label. label ≡ verdict_line (of_run run.now groups.now) labels.now place) }
+    ensures { IfOk result (λ label. label ≡ verdict_line (of_run run.now kids.now) labels.now place) }
 {
     let task = &run.spec.tasks.as_slice()[place as usize];
     let body = &run.spec.bodies.as_slice()[place as usize];
-    let children = groups.at(place);
     let stop = run.stops.as_slice().first().copied();
     if is_blocked(parents, labels) {
         return blocked_label(alloc, children, stop);
     }
-    if !are_good(run, groups, labels, parents) {
-        return waiting_label(alloc, run, groups, parents, place);
+    if !are_good(run, kids, labels, parents) {
+        return waiting_label(alloc, run, kids, children, parents, place);
     }
-    let own = own_at(alloc, run, groups, parents, place)?;
+    let own = own_at(alloc, run, kids, parents, place)?;
     let row = good_row(alloc, run, labels, parents, task, body, &own)?;
     label_by(
         alloc,
@@ -261,5 +248,43 @@ pub(crate) fn judged(
         row,
         stop,
         Verdict::Ready,
+    )
+}
+
+/// Whether one of these children hasn't ended.
+fn is_any_running(children: &[Child]) -> bool
+    ensures { result ≡ list_any is_running children.now }
+{
+    children.iter().any(|child| child.outcome.is_none())
+}
+
+/// The label of the task at a place of `tasks`, by its parents' labels. While a child of it runs, nothing else is asked. The only
+/// error is want of memory.
+pub(crate) fn judged(
+    alloc: Global,
+    run: &Facts,
+    kids: &Kids,
+    labels: &[Verdict],
+    parents: &[u32],
+    place: u32,
+) -> Result<Verdict, AllocError>
+    requires formed { IsWellFormed (of_run run.now kids.now) }
+    requires parents { parents.now ≡ parents_of run.now.spec.tasks place }
+    requires exists { place < length run.now.spec.tasks }
+    ensures { IfOk result (λ label. label ≡ verdict_line (of_run run.now kids.now) labels.now place) }
+{
+    running_runs();
+    if is_any_running(kids.at(place)) {
+        return Ok(Verdict::Runs);
+    }
+    let children = kids.each(alloc, place)?;
+    judged_with(
+        alloc,
+        run,
+        kids,
+        children.as_slice(),
+        labels,
+        parents,
+        place,
     )
 }

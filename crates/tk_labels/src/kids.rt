@@ -1,10 +1,13 @@
 //! Children in a vector, as changes leave them.
 
 ghost use Rattle.std.specs.Prelude.{◌≡◌, ◌<◌, ◌≤◌, ◌^◌, ◌++◌, None, Some, Contains, length, set, slice_get, take, IfOk, OnErr, OnOk};
+ghost use Rattle.std.specs.List.{list_any};
 ghost use Rattle.tk_labels.specs.Change.{children_with, runs_at};
+ghost use Rattle.tk_labels.specs.Kept.{is_bad as is_bad_child};
 
 use std::alloc::{AllocError, Global};
-use tk_types::{Child, List, Outcome, TryCopy};
+use tk_types::{Child, List, Outcome, RunSpec, TryCopy};
+use tk_verdict::judging::ended_well;
 
 /// Copies of children.
 pub(crate) fn copies(alloc: Global, children: &[Child]) -> Result<List<Child>, AllocError>
@@ -75,4 +78,21 @@ pub(crate) fn put(
         index,
         outcome,
     };
+}
+
+/// Whether a child's task is one of `tasks`, and it ended and isn't good for it.
+fn is_bad(spec: &RunSpec, child: &Child) -> bool
+    ensures { result ≡ is_bad_child spec.now child.now }
+{
+    match spec.tasks.as_slice().get(child.task as usize) {
+        None => false,
+        Some(task) => child.outcome.is_some() && !ended_well(child, task.ignore_failure),
+    }
+}
+
+/// Whether one of the children is so.
+pub(crate) fn any_bad(spec: &RunSpec, children: &[Child]) -> bool
+    ensures { result ≡ list_any (is_bad_child spec.now) children.now }
+{
+    children.iter().any(|child| is_bad(spec, child))
 }

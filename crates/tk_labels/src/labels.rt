@@ -1,7 +1,8 @@
 ghost use Rattle.std.specs.Prelude.{◌≡◌, ◌≢◌, ◌<◌, ◌++◌, ℕ, None, Contains, take, length, IfNone, IfOk, IfSome, OnErr, OnOk};
 ghost use Rattle.std.specs.List.{list_all};
 ghost use Rattle.tk_labels.specs.Change.{changed, children_with};
-ghost use Rattle.tk_labels.specs.Kept.{fresh, of_run, IsFirstReady, IsKept, MayChange, MayHave};
+ghost use Rattle.tk_labels.specs.Kept.{fresh, has_bad, of_run, IsFirstReady, IsKept, MayChange, MayHave};
+ghost use Rattle.tk_labels.specs.Spans.{AreSpanned};
 ghost use Rattle.tk_labels.specs.declared.change.Change.TheVariants.{Children, Ended, Stop as StopChange};
 ghost use Rattle.tk_types.specs.declared.verdict.Verdict.TheVariants.{Ready};
 ghost use Rattle.tk_verdict.specs.Condition.{condition_of, results_of};
@@ -12,10 +13,11 @@ ghost use Rattle.tk_verdict.specs.WellFormed.{IsWellFormed};
 
 use crate::anew::{anew, whole};
 use crate::change::Change;
-use crate::judge::bindings_of;
-use crate::kids::{add, place_of, put};
-use crate::ready::{first_ready, is_ready};
+use crate::judge::bindings_at;
+use crate::kids::{add, any_bad, place_of, put};
+use crate::ready::{Labelling, is_ready};
 use crate::relabel::relabelled;
+use crate::spans::{Kids, Span, with_span};
 use std::alloc::{AllocError, Global};
 use std::marker::Model;
 use std::mem;
@@ -23,7 +25,7 @@ use tk_graph::all_parents;
 use tk_types::{
     Binding, Child, Condition, Facts, List, Outcome, Param, RunSpec, Stop, TryCopy, Verdict,
 };
-use tk_verdict::judging::{Ranked, are_all_done, by_rank, label_at, ranks_of_run};
+use tk_verdict::judging::{Ranked, by_rank, label_at, ranks_of_run};
 use tk_verdict::laws::one_labelling;
 use tk_verdict::{Decision, condition_with, pipeline_results};
 
@@ -32,20 +34,22 @@ use tk_verdict::{Decision, condition_with, pipeline_results};
 pub struct Labels {
     run: Facts,
     children: Vec<Child>,
+    spans: Vec<Span>,
     parents: List<List<u32>>,
     sequence: Vec<Ranked>,
-    labels: Vec<Verdict>,
+    labels: Labelling,
+    bad: bool,
 }
 
 impl Model for Labels {
     ghost use Rattle.tk_types.specs.declared.run.Facts.{Facts};
-    ghost use Rattle.tk_labels.specs.Kept.{of_run, IsKept};
+    ghost use Rattle.tk_labels.specs.Kept.{of_run, IsHeld};
 
     ghost Value = { Facts };
 
     ghost view = { λ labels. of_run labels.run labels.children.items };
 
-    ghost invariant = { λ labels. IsKept (of_run labels.run labels.children.items) labels.parents labels.sequence.items labels.labels.items };
+    ghost invariant = { λ labels. IsHeld (of_run labels.run labels.children.items) labels.spans.items labels.parents labels.sequence.items labels.labels labels.bad };
 }
 
 impl Labels {
@@ -66,9 +70,11 @@ impl Labels {
         Ok(Labels {
             run,
             children: Vec::new(alloc),
+            spans: Vec::new(alloc),
             parents,
             sequence,
-            labels,
+            labels: Labelling::of(labels),
+            bad: false,
         })
     }
 
@@ -120,14 +126,24 @@ impl Labels {
         ensures none { IfNone result ((task : ℕ) → label_of self.now task ≢ Ready) }
     {
         one_labelling();
-        first_ready(self.labels.as_slice())
+        match self.labels.first_ready() {
+            Some(place) => Some(place as u32),
+            None => None,
+        }
     }
 
     /// Whether each task ran or is skipped. It takes no memory.
     pub fn all_done(&self) -> bool
         ensures { result ≡ list_all is_done (labels_of self.now) }
     {
-        are_all_done(self.labels.as_slice())
+        self.labels.are_done()
+    }
+
+    /// Whether some child of `tasks` ended and isn't good for its task. It takes no memory.
+    pub fn has_bad(&self) -> bool
+        ensures { result ≡ has_bad self.now }
+    {
+        self.bad
     }
 
     /// The bindings of the task at a place, one for each of its combinations in order, Some exactly where the task is Ready
@@ -151,7 +167,8 @@ impl Labels {
             return Ok(None);
         }
         let above = self.parents.as_slice()[task as usize].as_slice();
-        bindings_of(alloc, &self.run, self.children.as_slice(), above, task)
+        let kids = Kids::new(self.children.as_slice(), self.spans.as_slice());
+        bindings_at(alloc, &self.run, &kids, above, task)
     }
 
     /// The condition of the run, None exactly where the run can start and some task is neither Ran nor Skipped (Tekton,
@@ -199,7 +216,7 @@ impl Labels {
         let before = mem::replace(&mut self.run.stops, stops);
         match anew(alloc, &self.run, self.children.as_slice()) {
             Ok(labels) => {
-                self.labels = labels;
+                self.labels = Labelling::of(labels);
                 Ok(())
             }
             Err(AllocError) => {
@@ -220,11 +237,14 @@ impl Labels {
         ensures ok { OnOk result (self.new ≡ changed (Children task outcomes.now) self.old) }
         ensures err { OnErr result (self.new ≡ self.old) }
     {
-        let count = self.children.len();
+        let from = self.children.len();
+        let to = from + outcomes.len();
+        let spans = with_span(alloc, self.spans.as_slice(), task, Span { from, to })?;
         let made = given(
             alloc,
             &self.run,
             &mut self.children,
+            spans.as_slice(),
             self.parents.as_slice(),
             self.sequence.as_slice(),
             self.labels.as_slice(),
@@ -233,11 +253,13 @@ impl Labels {
         );
         match made {
             Ok(labels) => {
-                self.labels = labels;
+                self.spans = spans;
+                self.labels = Labelling::of(labels);
+                self.bad = any_bad(&self.run.spec, self.children.as_slice());
                 Ok(())
             }
             Err(AllocError) => {
-                self.children.truncate(count);
+                self.children.truncate(from);
                 Err(AllocError)
             }
         }
@@ -261,6 +283,7 @@ impl Labels {
             alloc,
             &self.run,
             self.children.as_slice(),
+            self.spans.as_slice(),
             self.parents.as_slice(),
             self.sequence.as_slice(),
             self.labels.as_slice(),
@@ -268,7 +291,8 @@ impl Labels {
         );
         match made {
             Ok(labels) => {
-                self.labels = labels;
+                self.labels = Labelling::of(labels);
+                self.bad = any_bad(&self.run.spec, self.children.as_slice());
                 Ok(())
             }
             Err(AllocError) => {
@@ -285,6 +309,7 @@ fn given(
     alloc: Global,
     run: &Facts,
     children: &mut Vec<Child>,
+    spans: &[Span],
     parents: &[List<u32>],
     sequence: &[Ranked],
     was: &[Verdict],
@@ -293,6 +318,7 @@ fn given(
 ) -> Result<Vec<Verdict>, AllocError>
     requires kept { IsKept (of_run run.now children.old.items) parents.now sequence.now was.now }
     requires may { MayHave (of_run run.now children.old.items) task (length outcomes.now) }
+    requires spanned { AreSpanned (children.old.items ++ children_with task outcomes.now) spans.now }
     ensures added { OnOk result (children.new.items ≡ children.old.items ++ children_with task outcomes.now) }
     ensures labels { IfOk result (λ labels. labels.items ≡ labels_of (of_run run.now (children.old.items ++ children_with task outcomes.now))) }
     ensures err { OnErr result (take (length children.old.items) children.new.items ≡ children.old.items) }
@@ -302,6 +328,7 @@ fn given(
         alloc,
         run,
         children.as_slice(),
+        spans,
         parents,
         sequence,
         was,

@@ -12,6 +12,7 @@ mod labels;
 pub mod locality;
 mod ready;
 mod relabel;
+mod spans;
 mod walk;
 pub mod walking;
 

@@ -11,16 +11,17 @@ ghost use Rattle.tk_verdict.specs.Verdict.{label_at as label_of_place};
 ghost use Rattle.tk_verdict.specs.WellFormed.{IsWellFormed};
 
 use crate::judge::{is_good_at, judged};
+use crate::spans::Kids;
 use std::alloc::{AllocError, Global};
 use tk_types::{Facts, List, Verdict};
 use tk_vars::laws::one_bad_offset;
-use tk_verdict::judging::{Groups, Ranked, blocks, is_skipped_by_when, label_at};
+use tk_verdict::judging::{Ranked, blocks, is_skipped_by_when, label_at};
 
 /// A task that was judged: its label, and whether the tasks behind it may see something else of it than before.
 #[derive(Clone, Copy)]
-struct Told {
-    label: Verdict,
-    moved: bool,
+pub(crate) struct Told {
+    pub label: Verdict,
+    pub moved: bool,
 }
 
 /// Whether a task with the second label shows something else than with the first.
@@ -31,23 +32,23 @@ fn shows_other(before: Verdict, after: Verdict) -> bool
 }
 
 /// The task at a place judged, which had a label before the change of a task's children.
-fn again(
+pub(crate) fn again(
     alloc: Global,
     run: &Facts,
-    groups: &Groups,
+    kids: &Kids,
     labels: &[Verdict],
     parents: &[u32],
     before: Verdict,
     place: u32,
     task: u32,
 ) -> Result<Told, AllocError>
-    requires formed { IsWellFormed (of_run run.now groups.now) }
+    requires formed { IsWellFormed (of_run run.now kids.now) }
     requires parents { parents.now ≡ parents_of run.now.spec.tasks place }
     requires exists { place < length run.now.spec.tasks }
-    ensures { IfOk result (λ told. IsAgain (of_run run.now groups.now) labels.now before place task told.label told.moved) }
+    ensures { IfOk result (λ told. IsAgain (of_run run.now kids.now) labels.now before place task told.label told.moved) }
 {
-    let label = judged(alloc, run, groups, labels, parents, place)?;
-    let moved = shows_other(before, label) || (place == task && is_good_at(run, groups, place));
+    let label = judged(alloc, run, kids, labels, parents, place)?;
+    let moved = shows_other(before, label) || (place == task && is_good_at(run, kids, place));
     Ok(Told { label, moved })
 }
 
@@ -62,7 +63,7 @@ fn any_moved(moved: &[bool], places: &[u32]) -> bool
 fn next_label(
     alloc: Global,
     run: &Facts,
-    groups: &Groups,
+    kids: &Kids,
     labels: &[Verdict],
     moved: &[bool],
     parents: &[u32],
@@ -70,13 +71,13 @@ fn next_label(
     place: u32,
     task: u32,
 ) -> Result<Told, AllocError>
-    requires formed { IsWellFormed (of_run run.now groups.now) }
+    requires formed { IsWellFormed (of_run run.now kids.now) }
     requires parents { parents.now ≡ parents_of run.now.spec.tasks place }
     requires exists { place < length run.now.spec.tasks }
-    ensures { IfOk result (λ told. IsNext (of_run run.now groups.now) labels.now moved.now parents.now before place task told.label told.moved) }
+    ensures { IfOk result (λ told. IsNext (of_run run.now kids.now) labels.now moved.now parents.now before place task told.label told.moved) }
 {
     if place == task || any_moved(moved, parents) {
-        return again(alloc, run, groups, labels, parents, before, place, task);
+        return again(alloc, run, kids, labels, parents, before, place, task);
     }
     Ok(Told {
         label: before,
@@ -112,18 +113,18 @@ fn unmoved(alloc: Global, count: usize) -> Result<Vec<bool>, AllocError>
 pub(crate) fn walk(
     alloc: Global,
     run: &Facts,
-    groups: &Groups,
+    kids: &Kids,
     parents: &[List<u32>],
     sequence: &[Ranked],
     was: &[Verdict],
     task: u32,
 ) -> Result<Vec<Verdict>, AllocError>
-    requires formed { IsWellFormed (of_run run.now groups.now) }
+    requires formed { IsWellFormed (of_run run.now kids.now) }
     requires parents { parents.now ≡ map (parents_of run.now.spec.tasks) (range_with_len 0 (length run.now.spec.tasks)) }
     requires ranked { IsRanked run.now.spec.tasks sequence.now }
     ensures count { IfOk result (λ labels. length labels.items ≡ length run.now.spec.tasks) }
-    ensures right { IfOk result (λ labels. (old : FactsRecord) → WasKept old (of_run run.now groups.now) task was.now → (place : ℕ) → place < length run.now.spec.tasks
-        → label_of_place labels.items place ≡ verdict_line (of_run run.now groups.now) labels.items place) }
+    ensures right { IfOk result (λ labels. (old : FactsRecord) → WasKept old (of_run run.now kids.now) task was.now → (place : ℕ) → place < length run.now.spec.tasks
+        → label_of_place labels.items place ≡ verdict_line (of_run run.now kids.now) labels.items place) }
 {
     one_bad_offset();
     let mut labels = waiting(alloc, parents.len())?;
@@ -134,7 +135,7 @@ pub(crate) fn walk(
         let told = next_label(
             alloc,
             run,
-            groups,
+            kids,
             labels.as_slice(),
             moved.as_slice(),
             above,

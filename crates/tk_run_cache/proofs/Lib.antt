@@ -1,7 +1,11 @@
+pub mod Activity
 pub mod Changes
 pub mod Ended
 pub mod Filters
+pub mod Marked
 pub mod Moved
+pub mod Names
+pub mod Open
 pub mod Owned
 pub mod Passed
 pub mod Standings

@@ -127,6 +127,14 @@ module _ (history : List Entry) (legal : IsLegal history) (place : ℕ) (e : Ent
             lasting_facts (past (place + 1) history) (name_of e.act) (admitted_run spec pending asked root) task_runs
             ((laws_of.lasting history legal (place + 1)).0.runs (name_of e.act) (admitted_run spec pending asked root) (sym made_so ∙ is))
 
+    -- there was no run of the name
+    admitted_absent : creates kinds.Runs e.act ≡ true → same_kind kinds.Runs (kind_of e.act) ≡ true → run_of (past place history) (name_of e.act) ≡ None
+    admitted_absent creating own = by (run_of (past place history) (name_of e.act)) refl (fits own)
+      where
+        by : (o : Option RunState) → run_of (past place history) (name_of e.act) ≡ o → MakesOrChanges kinds.Runs e (run_made e.act) o → run_of (past place history) (name_of e.act) ≡ None
+        by None is makes = is
+        by (Some run) is updates = absurd (cc (creating, updates))
+
     may_have : (task : ℕ) (bindings : List Binding) (run : RunState) → LastingRun (past (place + 1) history) (name_of e.act) (run_after e.moment (acts.Schedule (name_of e.act) task bindings) run) → MayHave (facts_of task_runs run) task (length bindings)
     may_have task bindings run last = record {
       exists = (last.exist part has).1;
@@ -147,7 +155,9 @@ module _ (history : List Entry) (legal : IsLegal history) (place : ℕ) (e : Ent
       where
         by_act : (act : Act) → e.act ≡ act → MayFollow act (known place t history (name_of e.act))
         by_act (acts.Admit name (admissions.Run spec) pending asked root) is =
-            admitted_formed spec pending asked root (ap run_made is) (ap (creates kinds.Runs) is) (ap (λ (act : Act). same_kind kinds.Runs (kind_of act)) is)
+            let own : same_kind kinds.Runs (kind_of e.act) ≡ true = ap (λ (act : Act). same_kind kinds.Runs (kind_of act)) is in
+            let creating : creates kinds.Runs e.act ≡ true = ap (creates kinds.Runs) is in
+            (admitted_formed spec pending asked root (ap run_made is) creating own, ap (option_map (standing_of task_runs)) (admitted_absent creating own))
         by_act (acts.Schedule name task bindings) is = by_run (run_of (past place history) (name_of e.act)) (written (ap (λ (act : Act). same_kind kinds.Runs (kind_of act)) is))
           where
             named : name_of e.act ≡ name

@@ -84,7 +84,7 @@ standing_after task_runs _ s = s
 
 -- what it asks
 abbrev pub MayFollow : Act → Option Standing → Type 0
-MayFollow (acts.Admit name (admissions.Run spec) pending asked root) o = IsWellFormed (fresh spec)
+MayFollow (acts.Admit name (admissions.Run spec) pending asked root) o = IsWellFormed (fresh spec) × (o ≡ None)
 MayFollow (acts.Schedule name task bindings) o = IfSome o (λ s. MayHave s.facts task (length bindings))
 MayFollow _ o = Unit {0}
 

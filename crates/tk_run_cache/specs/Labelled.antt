@@ -1,7 +1,7 @@
 -- What is kept beside a cache is what it shows of its runs.
-use Rattle.std.specs.Prelude.{◌≡◌, ℕ, Bool, List, filter, Option, is_none, option_map}
+use Rattle.std.specs.Prelude.{◌≡◌, ℕ, Bool, List, map, filter, Option, is_none, option_map, string_bytes}
 use Rattle.std.specs.declared.string.String.{String}
-use Rattle.indexmap.specs.IndexMap.{IndexMap, get_by_text}
+use Rattle.indexmap.specs.IndexMap.{IndexMap, get_by_text, keys}
 use Rattle.tk_types.specs.declared.run.Child.{Child}
 use Rattle.tk_types.specs.declared.run.Facts.{Facts}
 use Rattle.tk_journal.specs.declared.object.RunState.{RunState}
@@ -35,6 +35,11 @@ standing_in view run = record { facts = facts_in view run; missing = missing_in 
 abbrev pub standing_seen : View → List ℕ → Option Standing
 standing_seen view name = option_map (standing_in view) (view.run name)
 
--- what is kept stands for each run that is seen, and for no other
-abbrev pub AreLabelled : {A S : Type 0} → View → IndexMap (String A) Standing S → Type 0
-AreLabelled view kept = (name : List ℕ) → get_by_text kept name ≡ standing_seen view name
+-- the names of what is kept, in order
+abbrev pub kept_names : {A X S : Type 0} → IndexMap (String A) X S → List (List ℕ)
+kept_names kept = map string_bytes (keys kept)
+
+-- what is kept stands for each run that is seen, in the same order, and for no other
+pub record AreLabelled {A S : Type 0} (view : View) (kept : IndexMap (String A) Standing S) : Type 0 where
+  pub standing : (name : List ℕ) → get_by_text kept name ≡ standing_seen view name
+  pub names : kept_names kept ≡ view.runs

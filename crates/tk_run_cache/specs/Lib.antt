@@ -1,2 +1,3 @@
+pub mod Active
 pub mod Follow
 pub mod Labelled

@@ -1,11 +1,11 @@
 //! How a cache and what is kept of runs go from position to position.
 
-ghost use Rattle.std.specs.Prelude.{◌≡◌, ◌≤◌, ◌<◌, ◌+◌, ◌^◌, ℕ, List as Items, length, OnOk};
+ghost use Rattle.std.specs.Prelude.{◌≡◌, ◌≤◌, ◌<◌, ◌+◌, ◌^◌, length, OnOk};
 ghost use Rattle.tk_types.specs.declared.scenario.Kind.TheVariants.{Runs as RunKind, TaskRuns, Pods};
 ghost use Rattle.tk_journal.specs.Legal.{IsLegal};
 ghost use Rattle.tk_cache.specs.Fronts.{Shows, with_front};
 ghost use Rattle.tk_cache.specs.Views.{seen};
-ghost use Rattle.tk_run_cache.specs.Labelled.{AreLabelled, standing_seen};
+ghost use Rattle.tk_run_cache.specs.Labelled.{AreLabelled};
 
 use crate::follow::{Runs, follow_run, follow_task_run, may_end};
 use indexmap::IndexMap;
@@ -186,13 +186,19 @@ fn list_task_runs(
 }
 
 /// Puts the front of pods at a position, which changes nothing of runs.
-fn list_pods(cache: &mut Cache, journal: &Journal, position: u64) -> Result<(), AllocError>
+fn list_pods(
+    cache: &mut Cache,
+    runs: &Runs,
+    journal: &Journal,
+    position: u64,
+) -> Result<(), AllocError>
     requires legal { IsLegal journal.now.history }
     requires within { position ≤ length journal.now.history }
     requires shows { Shows (seen cache.old) journal.now.history }
+    requires labelled { AreLabelled (seen cache.old).view runs.now }
     ensures fronts { OnOk result (cache.new.fronts ≡ with_front Pods position cache.old.fronts) }
     ensures shows { OnOk result (Shows (seen cache.new) journal.now.history) }
-    ensures standing { OnOk result ((name : Items ℕ) → standing_seen (seen cache.old).view name ≡ standing_seen (seen cache.new).view name) }
+    ensures labelled { OnOk result (AreLabelled (seen cache.new).view runs.now) }
 {
     cache.relist(journal, Kind::Pods, position)?;
     Ok(())
@@ -218,6 +224,6 @@ pub(crate) fn relist(
     match kind {
         Kind::Runs => list_runs(alloc, cache, runs, journal, position),
         Kind::TaskRuns => list_task_runs(alloc, cache, runs, journal, position),
-        Kind::Pods => list_pods(cache, journal, position),
+        Kind::Pods => list_pods(cache, runs, journal, position),
     }
 }

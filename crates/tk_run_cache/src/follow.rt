@@ -1,14 +1,17 @@
 //! How what is kept of runs follows one entry.
 
-ghost use Rattle.std.specs.Prelude.{◌≡◌, ◌&&◌, ℕ, [], List as Items, Some, is_none, option_copied, option_map, IfSome, OnOk};
+ghost use Rattle.std.specs.Prelude.{◌≡◌, ◌&&◌, ◌++◌, ◌∷◌, ℕ, [], List as Items, Some, None, is_none, option_copied, option_map, IfSome, OnOk};
 ghost use Rattle.indexmap.specs.IndexMap.{get_by_text};
-ghost use Rattle.tk_types.specs.declared.scenario.Kind.TheVariants.{TaskRuns};
+ghost use Rattle.tk_types.specs.declared.scenario.Kind.TheVariants.{Runs as RunKind, TaskRuns};
 ghost use Rattle.tk_verdict.specs.WellFormed.{IsWellFormed};
 ghost use Rattle.tk_labels.specs.Kept.{fresh, MayHave};
 ghost use Rattle.tk_journal.specs.Effects.{kind_of, name_of, same_kind};
 ghost use Rattle.tk_journal.specs.History.{outcome_of};
 ghost use Rattle.tk_cache.specs.Views.{seen};
+ghost use Rattle.tk_cache.specs.Written.{names_after};
+ghost use Rattle.tk_places.specs.Places.{IsPlaceOf};
 ghost use Rattle.tk_run_cache.specs.Follow.{ChangesAt, MayFollow, MayHaveTaskRun, MayStep, scheduled_in, standing_after, standing_with, stepped};
+ghost use Rattle.tk_run_cache.specs.Labelled.{kept_names};
 
 use crate::children::{new_children, outcome_of, outcome_seen};
 use crate::known::Known;
@@ -26,7 +29,8 @@ pub(crate) type Runs = IndexMap<String, Known>;
 /// Makes a step of a run, where it is kept.
 fn step_run(alloc: Global, runs: &mut Runs, name: &str, step: Step) -> Result<(), AllocError>
     requires may { IfSome (get_by_text runs.old name.now) (MayStep step) }
-    ensures { OnOk result (ChangesAt name.now (option_map (stepped step)) runs.old runs.new) }
+    ensures changes { OnOk result (ChangesAt name.now (option_map (stepped step)) runs.old runs.new) }
+    ensures names { OnOk result (kept_names runs.new ≡ kept_names runs.old) }
 {
     if let Some(known) = runs.get_mut(name) {
         known.go(alloc, step)?;
@@ -37,7 +41,9 @@ fn step_run(alloc: Global, runs: &mut Runs, name: &str, step: Step) -> Result<()
 /// Adds a run that is admitted.
 fn admit(alloc: Global, runs: &mut Runs, name: &str, spec: &RunSpec) -> Result<(), AllocError>
     requires formed { IsWellFormed (fresh spec.now) }
-    ensures { OnOk result (ChangesAt name.now (λ s. Some record { facts = fresh spec.now; missing = [] }) runs.old runs.new) }
+    requires absent { get_by_text runs.old name.now ≡ None }
+    ensures changes { OnOk result (ChangesAt name.now (λ s. Some record { facts = fresh spec.now; missing = [] }) runs.old runs.new) }
+    ensures names { OnOk result (kept_names runs.new ≡ kept_names runs.old ++ name.now ∷ []) }
 {
     let known = Known::of(alloc, spec.copy(alloc)?)?;
     let key = String::from_str(alloc, name)?;
@@ -55,7 +61,8 @@ fn schedule(
     count: usize,
 ) -> Result<(), AllocError>
     requires may { IfSome (get_by_text runs.old name.now) (λ s. MayHave s.facts task count) }
-    ensures { OnOk result (ChangesAt name.now (option_map (scheduled_in (seen cache.now).view.task_run task count)) runs.old runs.new) }
+    ensures changes { OnOk result (ChangesAt name.now (option_map (scheduled_in (seen cache.now).view.task_run task count)) runs.old runs.new) }
+    ensures names { OnOk result (kept_names runs.new ≡ kept_names runs.old) }
 {
     let Some(known) = runs.get(name) else {
         return Ok(());
@@ -82,7 +89,8 @@ pub(crate) fn follow_run(
     act: &Act,
 ) -> Result<(), AllocError>
     requires may { MayFollow act.now (get_by_text runs.old (name_of act.now)) }
-    ensures { OnOk result (ChangesAt (name_of act.now) (standing_after (seen cache.now).view.task_run act.now) runs.old runs.new) }
+    ensures changes { OnOk result (ChangesAt (name_of act.now) (standing_after (seen cache.now).view.task_run act.now) runs.old runs.new) }
+    ensures names { OnOk result (kept_names runs.new ≡ names_after RunKind act.now (kept_names runs.old)) }
 {
     match act {
         Act::Admit {
@@ -120,7 +128,8 @@ pub(crate) fn follow_task_run(
     task_run: &TaskRunState,
 ) -> Result<(), AllocError>
     requires may { MayHaveTaskRun task_run.now runs.old }
-    ensures { OnOk result ((name : Items ℕ) → get_by_text runs.new name ≡ standing_with task_run.now name (get_by_text runs.old name)) }
+    ensures ends { OnOk result ((name : Items ℕ) → get_by_text runs.new name ≡ standing_with task_run.now name (get_by_text runs.old name)) }
+    ensures names { OnOk result (kept_names runs.new ≡ kept_names runs.old) }
 {
     let Some(run) = &task_run.run else {
         return Ok(());
@@ -156,5 +165,15 @@ pub(crate) fn missing_of<'a>(runs: &'a Runs, name: &str) -> Option<&'a [Child]>
     match runs.get(name) {
         None => None,
         Some(known) => Some(known.missing()),
+    }
+}
+
+/// The place of a run, where it is kept.
+pub(crate) fn place_of(runs: &Runs, name: &str) -> Option<u64>
+    ensures { IsPlaceOf (kept_names runs.now) name.now result }
+{
+    match runs.get_index_of(name) {
+        Some(place) => Some(place as u64),
+        None => None,
     }
 }

@@ -1,11 +1,15 @@
-//! The cache of a run worker: a cache, and beside it the labels of each run that it shows and the children that have no
-//! TaskRun yet. They follow each entry that the cache is told of, so no run is labelled anew.
+//! The cache of a run worker: a cache, and beside it the labels of each run that it shows, the children that have no
+//! TaskRun yet, and the places of the runs that can still get an entry. They follow each entry that the cache is told of, so no
+//! run is labelled anew, and a run worker looks at no run that is done.
 #![tactic(auto)]
 
+mod active;
 mod advance;
 mod children;
 mod follow;
 mod known;
+mod labelled_cache;
+mod marking;
 mod run_cache;
 mod step;
 

@@ -2,35 +2,37 @@ ghost use Rattle.std.specs.Prelude.{◌≡◌, ◌≤◌, [], length, option_cop
 ghost use Rattle.tk_journal.specs.Legal.{IsLegal};
 ghost use Rattle.tk_cache.specs.Fronts.{Shows, delivered, listed};
 ghost use Rattle.tk_cache.specs.Views.{seen};
+ghost use Rattle.tk_run_cache.specs.Active.{AreActive};
 ghost use Rattle.tk_run_cache.specs.Labelled.{facts_seen, missing_seen};
 
-use crate::advance::relist;
-use crate::follow::{Runs, labels_of, missing_of};
-use indexmap::IndexMap;
+use crate::labelled_cache::LabelledCache;
+use crate::marking::relist;
 use std::alloc::{AllocError, Global};
 use std::marker::Model;
 use tk_cache::{Cache, front_of, next_front};
 use tk_journal::Journal;
 use tk_labels::Labels;
+use tk_places::Places;
 use tk_types::{Child, Kind};
 
-/// A cache, and the labels of each run that it shows with its children that have no TaskRun. A contract sees the cache.
+/// A cache, the labels of each run that it shows with its children that have no TaskRun, and the places of the runs that can
+/// still get an entry. A contract sees the cache.
 #[derive(Drop)]
 pub struct RunCache {
     alloc: Global,
-    cache: Cache,
-    runs: Runs,
+    cache: LabelledCache,
+    active: Places,
 }
 
 impl Model for RunCache {
     ghost use Rattle.tk_cache.specs.Views.{Kept, seen};
-    ghost use Rattle.tk_run_cache.specs.Labelled.{AreLabelled};
+    ghost use Rattle.tk_run_cache.specs.Active.{AreActive};
 
     ghost Value = { Kept };
 
     ghost view = { λ c. c.cache };
 
-    ghost invariant = { λ c. AreLabelled (seen c.cache).view c.runs };
+    ghost invariant = { λ c. AreActive (seen c.cache).view c.active };
 }
 
 impl RunCache {
@@ -40,8 +42,8 @@ impl RunCache {
     {
         RunCache {
             alloc,
-            cache: Cache::empty(alloc),
-            runs: IndexMap::new(alloc),
+            cache: LabelledCache::empty(alloc),
+            active: Places::new(alloc),
         }
     }
 
@@ -49,14 +51,14 @@ impl RunCache {
     pub fn cache(&self) -> &Cache
         ensures { result.now ≡ self.now }
     {
-        &self.cache
+        self.cache.cache()
     }
 
     /// The labels of a run that the cache shows, None where it shows none of that name.
     pub fn labels(&self, run: &str) -> Option<&Labels>
         ensures { option_copied result ≡ facts_seen (seen self.now).view run.now }
     {
-        labels_of(&self.runs, run)
+        self.cache.labels(run)
     }
 
     /// The children of a run that have no TaskRun, as the cache shows them, in the order in which they came. None where it shows
@@ -64,7 +66,15 @@ impl RunCache {
     pub fn missing(&self, run: &str) -> Option<&[Child]>
         ensures { option_copied result ≡ missing_seen (seen self.now).view run.now }
     {
-        missing_of(&self.runs, run)
+        self.cache.missing(run)
+    }
+
+    /// The places of the runs that can still get an entry: those that aren't closed, or have a recorded stop and an open TaskRun,
+    /// as the cache shows them. A place of another one may stand there too.
+    pub fn active(&self) -> &Places
+        ensures { AreActive (seen self.now).view result.now }
+    {
+        &self.active
     }
 
     /// Moves the kind's front past so many entries more of it. The only error is want of memory; the cache is then empty.
@@ -75,7 +85,7 @@ impl RunCache {
         ensures shows { OnOk result (Shows (seen self.new) journal.now.history) }
         ensures err { OnErr result (Shows (seen self.new) []) }
     {
-        let front = front_of(kind, self.cache.front());
+        let front = front_of(kind, self.cache.cache().front());
         self.relist(journal, kind, next_front(journal, kind, n, front))
     }
 
@@ -92,14 +102,14 @@ impl RunCache {
         let listed = relist(
             alloc,
             &mut self.cache,
-            &mut self.runs,
+            &mut self.active,
             journal,
             kind,
             position,
         );
         if listed.is_err() {
-            self.cache = Cache::empty(alloc);
-            self.runs = IndexMap::new(alloc);
+            self.cache = LabelledCache::empty(alloc);
+            self.active = Places::new(alloc);
             return Err(AllocError);
         }
         Ok(())

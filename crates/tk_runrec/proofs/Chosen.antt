@@ -53,7 +53,8 @@ use Rattle.tk_choice.proofs.First.{first_is, none_first, IsFirst, first_of, none
 use Rattle.tk_runrec.specs.declared.found.Found.{Found}
 use Rattle.tk_runrec.specs.Labels.{is_undone, first_ready}
 use Rattle.tk_runrec.specs.Found.{first_found}
-use Rattle.tk_runrec.specs.Tests.{starts_ready, is_closed, is_recorded, is_reached, is_above, has_cause, has_passed, may_halt, may_schedule, may_go_on, may_finish, is_bad, is_bare}
+use Rattle.tk_labels.specs.Kept.{is_bad}
+use Rattle.tk_runrec.specs.Tests.{starts_ready, is_closed, is_recorded, is_reached, is_above, has_cause, has_passed, may_halt, may_schedule, may_go_on, may_finish, is_bare}
 use Rattle.tk_runrec.specs.Choice.{halting_order, halt, start, found_at, unmarked, cancel, make, missing, make_first, close, closed_with, all_closed, is_over, schedule, schedule_task, table, act_of, act_at, choice, child_name, seen_children}
 use Rattle.tk_runrec.specs.Fit.{IsFit, AreFit}
 use Rattle.tk_runrec.specs.Laws.{ChoiceIsFirst, NoneIsLeft}

@@ -1,5 +1,5 @@
 -- The labels of a run's tasks as one list.
-use Rattle.std.proofs.Common.{◌≡◌, ℕ, zero, suc, ◌+◌, ◌-◌, ◌<◌, ◌≤◌, List, [], ◌∷◌, ◌++◌, length, get_or, map, take, drop, Some, Bool, true, refl, sym, ◌∙◌, ap, subst, inl, inr, arith, Contains}
+use Rattle.std.proofs.Common.{◌≡◌, ◌≢◌, ℕ, zero, suc, ◌+◌, ◌-◌, ◌<◌, ◌≤◌, List, [], ◌∷◌, ◌++◌, length, get_or, map, take, drop, Option, Some, None, Bool, true, refl, sym, ◌∙◌, ap, subst, inl, inr, arith, Contains}
 use Rattle.std.specs.Prelude.{◌&&◌, ◌||◌}
 use Rattle.std.specs.List.{list_any, range_with_len}
 use Rattle.std.proofs.lemmas.Bool.{cases_Bool, and_parts}
@@ -95,3 +95,11 @@ ready_found facts may task is = ready_from (label_of facts) may 0 (task_total fa
 -- the tasks from one on
 pub any_next : (test : ℕ → Bool) (task count : ℕ) → task < count → list_any test (range_with_len task (count - task)) ≡ (test task || list_any test (range_with_len (task + 1) (count - (task + 1))))
 any_next test task count below = let e : count - task ≡ suc (count - (task + 1)) = omega arith in rw e refl
+
+-- no task is Ready
+pub none_ready : (facts : Facts) (may : ℕ → Bool) → ((task : ℕ) → label_of facts task ≢ labels.Ready) → first_ready may 0 (labels_of facts) ≡ None
+none_ready facts may none = by (first_ready may 0 (labels_of facts)) refl
+  where
+    by : (o : Option ℕ) → first_ready may 0 (labels_of facts) ≡ o → first_ready may 0 (labels_of facts) ≡ None
+    by None is = is
+    by (Some task) is = absurd (none task (ready_found facts may task is).ready)

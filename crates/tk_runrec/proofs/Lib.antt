@@ -5,10 +5,11 @@ pub mod Listed
 pub mod Unmarked
 pub mod Unlabelled
 pub mod Table
-pub mod Places
+pub mod Active
 pub mod Justified
 pub mod Fit
 pub mod Earliest
 pub mod Chosen
 pub mod Shown
 pub mod Missing
+pub mod Late

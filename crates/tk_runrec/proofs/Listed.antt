@@ -18,7 +18,7 @@ use Rattle.tk_journal.specs.History.{children_from, children_in}
 use Rattle.tk_journal.specs.RunRows.{BadChild}
 use Rattle.tk_runrec.specs.declared.found.Found.{Found}
 use Rattle.tk_runrec.specs.Found.{first_found, sooner, is_before}
-use Rattle.tk_runrec.specs.Tests.{is_bad, ended_badly}
+use Rattle.tk_labels.specs.Kept.{is_bad, ended_badly}
 use Rattle.tk_runrec.proofs.Meaning.{here, there, split, none_in, any_is, any_from, not_is}
 
 -- a child of a scheduled task

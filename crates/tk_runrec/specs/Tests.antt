@@ -1,20 +1,17 @@
 -- The tests by which a run worker goes through the rows of one run.
-use Rattle.std.specs.Prelude.{ℕ, ◌+◌, Bool, true, false, not, ◌&&◌, ◌||◌, nat_lt, nat_le, nat_eq, List, length, take, drop, Option, Some, None, is_some, slice_get, if◌then◌else◌}
+use Rattle.std.specs.Prelude.{ℕ, ◌+◌, Bool, true, false, not, ◌&&◌, ◌||◌, nat_lt, nat_le, nat_eq, List, length, take, drop, Option, Some, None, is_some, if◌then◌else◌}
 use Rattle.std.specs.List.{list_any, list_all, range_with_len}
-use Rattle.std.specs.Option.{option_map_or}
 use Rattle.tk_types.specs.declared.object.Asked.{Asked}
 use Rattle.tk_types.specs.declared.object.Asked.TheVariants as asks
 use Rattle.tk_types.specs.declared.run.Child.{Child}
-use Rattle.tk_types.specs.declared.run.Outcome.{Outcome}
-use Rattle.tk_types.specs.declared.run.RunSpec.{RunSpec}
 use Rattle.tk_types.specs.declared.run.Start.{Start}
 use Rattle.tk_types.specs.declared.run.Start.TheVariants.{Ready, Unstartable}
 use Rattle.tk_types.specs.declared.run.Stop.{Stop}
 use Rattle.tk_types.specs.declared.run.Stop.TheVariants as stops
-use Rattle.tk_types.specs.declared.task.PipelineTask.{PipelineTask}
 use Rattle.tk_types.specs.declared.verdict.Verdict.{Verdict}
 use Rattle.tk_types.specs.Lists.{is_empty}
-use Rattle.tk_verdict.specs.Facts.{is_good, level_of}
+use Rattle.tk_verdict.specs.Facts.{level_of}
+use Rattle.tk_labels.specs.Kept.{is_bad}
 use Rattle.tk_journal.specs.declared.object.RunState.{RunState}
 use Rattle.tk_journal.specs.declared.object.Scheduled.{Scheduled}
 use Rattle.tk_journal.specs.declared.object.TaskRunState.{TaskRunState}
@@ -33,15 +30,6 @@ starts_ready (Unstartable reason) = false
 abbrev pub is_closed : Option TaskRunState → Bool
 is_closed None = false
 is_closed (Some task_run) = is_some task_run.closed
-
--- it ended, and isn't good for the task
-abbrev pub ended_badly : Option Outcome → PipelineTask → Bool
-ended_badly None task = false
-ended_badly (Some outcome) task = not (is_good task outcome)
-
--- a child of `tasks` that ended and isn't good
-abbrev pub is_bad : RunSpec → Child → Bool
-is_bad spec child = option_map_or (ended_badly child.outcome) (slice_get spec.tasks child.task) false
 
 -- the task has no children
 abbrev pub is_bare : List Scheduled → ℕ → Bool

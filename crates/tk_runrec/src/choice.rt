@@ -75,13 +75,13 @@ fn by_labels(
     if let Some(act) = close(alloc, cache, name, run, children, kept, labels)? {
         return Ok(Some(act));
     }
-    if let Some(act) = halt(alloc, moment, name, run, children, labels)? {
+    if let Some(act) = halt(alloc, moment, name, run, kept, labels)? {
         return Ok(Some(act));
     }
     if let Some(act) = without_labels(alloc, cache, name, run, bare)? {
         return Ok(Some(act));
     }
-    schedule(alloc, cache, name, run, children, kept, labels)
+    schedule(alloc, cache, name, run, kept, labels)
 }
 
 /// Whether no row looks at a label: the run wasn't started, and is pending or can start.
@@ -167,9 +167,8 @@ fn run_count(cache: &RunCache) -> u64
     cache.cache().run_count()
 }
 
-/// The first act that the cache justifies at this moment, in milliseconds, of runs in order of admission. The only error
-/// is want of memory.
-#[tactic(auto, using(crate::proofs::Places::choice_later, crate::proofs::Places::choice_here, crate::proofs::Places::choice_end))]
+/// The first act that the cache justifies at this moment, in milliseconds, of runs in order of admission. It looks at those alone
+/// that can still get an entry. The only error is want of memory.
 pub(crate) fn choose(
     alloc: Global,
     cache: &RunCache,
@@ -178,10 +177,21 @@ pub(crate) fn choose(
     requires fit { AreFit (seen cache.now).view }
     ensures { IfOk result (λ act. act ≡ choice (seen cache.now).view moment) }
 {
-    for place in 0..run_count(cache) {
-        if let Some(act) = of_place(alloc, cache, moment, place)? {
-            return Ok(Some(act));
+    let active = cache.active();
+    let end = run_count(cache);
+    let mut from = 0;
+    while from < end {
+        let Some(place) = active.next(from) else {
+            return Ok(None);
+        };
+        if end <= place {
+            return Ok(None);
         }
+        let found = of_place(alloc, cache, moment, place)?;
+        if found.is_some() {
+            return Ok(found);
+        }
+        from = place + 1;
     }
     Ok(None)
 }

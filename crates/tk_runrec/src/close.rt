@@ -1,7 +1,6 @@
 ghost use Rattle.std.specs.Prelude.{◌≡◌, ◌<◌, ◌^◌, length, IfOk};
 ghost use Rattle.std.specs.List.{list_all};
 ghost use Rattle.tk_verdict.specs.Labels.{labels_of};
-ghost use Rattle.tk_verdict.specs.Verdict.{is_done};
 ghost use Rattle.tk_journal.specs.RunRows.{facts_in};
 ghost use Rattle.tk_cache.specs.Views.{seen};
 ghost use Rattle.tk_runrec.specs.Choice.{all_closed, seen_children, is_over, close as close_row, closing as closing_of};
@@ -16,18 +15,6 @@ use tk_cache::Cache;
 use tk_journal::{Act, Closing, RunState, Skip};
 use tk_labels::Labels;
 use tk_types::{Asked, Child, Condition, List, Stop, Text, Verdict};
-
-fn is_finished(label: Verdict) -> bool
-    ensures { result ≡ is_done label }
-{
-    matches!(label, Verdict::Ran | Verdict::Skipped(_))
-}
-
-fn are_finished(labels: &[Verdict]) -> bool
-    ensures { result ≡ list_all is_done labels.now }
-{
-    labels.iter().all(|label| is_finished(*label))
-}
 
 fn are_recorded(recorded: &[Stop], asked: &[Asked]) -> bool
     ensures { result ≡ list_all (is_recorded recorded.now) asked.now }
@@ -60,15 +47,15 @@ fn is_all_over(
     cache: &Cache,
     run: &RunState,
     children: &[Child],
-    labels: &[Verdict],
+    kept: &Labels,
 ) -> Result<bool, AllocError>
     requires children { children.now ≡ seen_children (seen cache.now).view run.now }
-    ensures { IfOk result (λ over. over ≡ is_over (seen cache.now).view run.now labels.now) }
+    ensures { IfOk result (λ over. over ≡ is_over (seen cache.now).view run.now (labels_of kept.now)) }
 {
     if !is_startable(&run.spec.start) {
         return Ok(true);
     }
-    if run.start.is_none() || !are_finished(labels) {
+    if run.start.is_none() || !kept.all_done() {
         return Ok(false);
     }
     if !are_recorded(run.stops.as_slice(), run.asked.as_slice()) {
@@ -128,7 +115,7 @@ pub(crate) fn close(
     requires labels { labels.now ≡ labels_of kept.now }
     ensures { IfOk result (λ act. act ≡ close_row (seen cache.now).view name.now run.now labels.now) }
 {
-    if run.pending || !is_all_over(alloc, cache, run, children, labels)? {
+    if run.pending || !is_all_over(alloc, cache, run, children, kept)? {
         return Ok(None);
     }
     match kept.condition(alloc)? {

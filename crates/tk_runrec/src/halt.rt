@@ -1,15 +1,15 @@
-ghost use Rattle.std.specs.Prelude.{◌≡◌, ◌≤◌, length, filter, find, IfOk};
+ghost use Rattle.std.specs.Prelude.{◌≡◌, ◌≤◌, ◌&&◌, length, filter, find, IfOk};
 ghost use Rattle.std.specs.List.{list_any, range_with_len};
 ghost use Rattle.tk_runrec.specs.Choice.{halting_order, halt as halt_row};
 ghost use Rattle.tk_runrec.specs.Fit.{AreApart};
 ghost use Rattle.tk_runrec.specs.Labels.{is_undone as is_undone_label};
-ghost use Rattle.tk_runrec.specs.Tests.{has_children, is_bare, has_cause as has_cause_of, may_halt};
+ghost use Rattle.tk_runrec.specs.Tests.{has_children, has_passed, is_bare, has_cause as has_cause_of, may_halt};
 
-use crate::children::is_any_bad;
 use crate::stops::{is_above_all, is_highest_asked, timed_out};
 use std::alloc::{AllocError, Global};
 use tk_journal::{Act, RunState, Scheduled};
-use tk_types::{Child, Stop, Text, Verdict};
+use tk_labels::Labels;
+use tk_types::{Stop, Text, Verdict};
 
 fn is_undone(label: Verdict) -> bool
     ensures { result ≡ is_undone_label label }
@@ -21,6 +21,14 @@ fn is_any_undone(labels: &[Verdict]) -> bool
     ensures { result ≡ list_any is_undone_label labels.now }
 {
     labels.iter().any(|label| is_undone(*label))
+}
+
+/// Whether the timeout has passed, and a task isn't done.
+#[tactic(auto, using(crate::proofs::Late::either_order))]
+fn is_late(labels: &[Verdict], start: Option<u64>, timeout: u64, moment: u64) -> bool
+    ensures { result ≡ (list_any is_undone_label labels.now && has_passed start timeout moment) }
+{
+    timed_out(start, timeout, moment) && is_any_undone(labels)
 }
 
 /// How many of the first so many tasks have children.
@@ -43,71 +51,58 @@ fn is_any_bare(scheduled: &[Scheduled], count: usize) -> bool
 }
 
 /// What the stop's own row says (Tekton, PipelineRuns, Configuring a failure timeout; Cancelling a PipelineRun).
-fn has_cause(
-    moment: u64,
-    run: &RunState,
-    children: &[Child],
-    labels: &[Verdict],
-    stop: Stop,
-) -> bool
+fn has_cause(moment: u64, run: &RunState, kept: &Labels, labels: &[Verdict], stop: Stop) -> bool
     requires apart { AreApart run.now.scheduled }
+    requires same { kept.now.spec ≡ run.now.spec }
     requires long { length run.now.spec.tasks ≤ length labels.now }
-    ensures { result ≡ has_cause_of moment run.now children.now labels.now stop }
+    ensures { result ≡ has_cause_of moment run.now kept.now.children labels.now stop }
 {
     let tasks = run.spec.tasks.len();
     match stop {
         Stop::StoppedRunFinally | Stop::CancelledRunFinally | Stop::Cancelled => {
             is_highest_asked(run.asked.as_slice(), stop)
         }
-        Stop::PipelineTimeout => {
-            is_any_undone(labels) && timed_out(run.start, run.spec.pipeline_ms, moment)
-        }
-        Stop::TasksTimeout => {
-            is_any_undone(&labels[..tasks]) && timed_out(run.start, run.spec.tasks_ms, moment)
-        }
-        Stop::FinallyTimeout => {
-            is_any_undone(&labels[tasks..])
-                && timed_out(run.finally_start, run.spec.finally_ms, moment)
-        }
+        Stop::PipelineTimeout => is_late(labels, run.start, run.spec.pipeline_ms, moment),
+        Stop::TasksTimeout => is_late(&labels[..tasks], run.start, run.spec.tasks_ms, moment),
+        Stop::FinallyTimeout => is_late(
+            &labels[tasks..],
+            run.finally_start,
+            run.spec.finally_ms,
+            moment,
+        ),
         Stop::Failure => {
-            run.stops.is_empty()
-                && is_any_bad(&run.spec, children)
-                && is_any_bare(run.scheduled.as_slice(), tasks)
+            run.stops.is_empty() && kept.has_bad() && is_any_bare(run.scheduled.as_slice(), tasks)
         }
     }
 }
 
 /// Whether the stop may be recorded, of an open run.
-fn may_record(
-    moment: u64,
-    run: &RunState,
-    children: &[Child],
-    labels: &[Verdict],
-    stop: Stop,
-) -> bool
+fn may_record(moment: u64, run: &RunState, kept: &Labels, labels: &[Verdict], stop: Stop) -> bool
     requires apart { AreApart run.now.scheduled }
+    requires same { kept.now.spec ≡ run.now.spec }
     requires long { length run.now.spec.tasks ≤ length labels.now }
-    ensures { result ≡ may_halt moment run.now children.now labels.now stop }
+    ensures { result ≡ may_halt moment run.now kept.now.children labels.now stop }
 {
     run.start.is_some()
         && is_above_all(run.stops.as_slice(), stop)
-        && has_cause(moment, run, children, labels, stop)
+        && has_cause(moment, run, kept, labels, stop)
 }
 
 /// The first of these stops that may be recorded.
 fn first_of(
     moment: u64,
     run: &RunState,
-    children: &[Child],
+    kept: &Labels,
     labels: &[Verdict],
     order: &[Stop],
 ) -> Option<Stop>
     requires apart { AreApart run.now.scheduled }
+    requires same { kept.now.spec ≡ run.now.spec }
     requires long { length run.now.spec.tasks ≤ length labels.now }
-    ensures { result ≡ find (may_halt moment run.now children.now labels.now) order.now }
+    ensures { result ≡ find (may_halt moment run.now kept.now.children labels.now) order.now }
 {
     for stop in order {
-        if may_record(moment, run, children, labels, *stop) {
+        if may_record(moment, run, kept, labels, *stop) {
             return Some(*stop);
         }
     }
@@ -115,10 +110,11 @@ fn first_of(
 }
 
 /// The first stop that may be recorded.
-fn first_stop(moment: u64, run: &RunState, children: &[Child], labels: &[Verdict]) -> Option<Stop>
+fn first_stop(moment: u64, run: &RunState, kept: &Labels, labels: &[Verdict]) -> Option<Stop>
     requires apart { AreApart run.now.scheduled }
+    requires same { kept.now.spec ≡ run.now.spec }
     requires long { length run.now.spec.tasks ≤ length labels.now }
-    ensures { result ≡ find (may_halt moment run.now children.now labels.now) halting_order }
+    ensures { result ≡ find (may_halt moment run.now kept.now.children labels.now) halting_order }
 {
     let order = [
         Stop::Cancelled,
@@ -129,7 +125,7 @@ fn first_stop(moment: u64, run: &RunState, children: &[Child], labels: &[Verdict
         Stop::FinallyTimeout,
         Stop::Failure,
     ];
-    first_of(moment, run, children, labels, &order)
+    first_of(moment, run, kept, labels, &order)
 }
 
 /// The rows Halt.
@@ -138,14 +134,15 @@ pub(crate) fn halt(
     moment: u64,
     name: &str,
     run: &RunState,
-    children: &[Child],
+    kept: &Labels,
     labels: &[Verdict],
 ) -> Result<Option<Act>, AllocError>
     requires apart { AreApart run.now.scheduled }
+    requires same { kept.now.spec ≡ run.now.spec }
     requires long { length run.now.spec.tasks ≤ length labels.now }
-    ensures { IfOk result (λ act. act ≡ halt_row moment name.now run.now children.now labels.now) }
+    ensures { IfOk result (λ act. act ≡ halt_row moment name.now run.now kept.now.children labels.now) }
 {
-    match first_stop(moment, run, children, labels) {
+    match first_stop(moment, run, kept, labels) {
         None => Ok(None),
         Some(stop) => Ok(Some(Act::Halt {
             name: Text::from_str(alloc, name)?,

@@ -8,18 +8,17 @@ ghost use Rattle.tk_verdict.specs.Verdict.{is_ready as is_ready_label};
 ghost use Rattle.tk_journal.specs.RunRows.{facts_in};
 ghost use Rattle.tk_journal.specs.Stops.{asked_level as level_of_asked};
 ghost use Rattle.tk_cache.specs.Views.{seen};
-ghost use Rattle.tk_runrec.specs.Choice.{seen_children, schedule as schedule_row, schedule_task as schedule_of_task};
+ghost use Rattle.tk_runrec.specs.Choice.{schedule as schedule_row, schedule_task as schedule_of_task};
 ghost use Rattle.tk_runrec.specs.Fit.{IsFit};
 ghost use Rattle.tk_runrec.specs.Labels.{first_ready as first_ready_of};
 ghost use Rattle.tk_runrec.specs.Tests.{may_go_on, may_finish, may_schedule};
 
-use crate::children::is_any_bad;
 use crate::stops::{asked_level, is_of_finally, level_of};
 use std::alloc::{AllocError, Global};
 use tk_cache::Cache;
 use tk_journal::{Act, RunState};
 use tk_labels::Labels;
-use tk_types::{Asked, Child, Stop, Text, Verdict};
+use tk_types::{Asked, Stop, Text, Verdict};
 
 fn is_none_asked(asked: &[Asked]) -> bool
     ensures { result ≡ list_all (λ (a : AnAsked). nat_eq (level_of_asked a) 0) asked.now }
@@ -40,10 +39,11 @@ fn are_recorded_below(recorded: &[Stop]) -> bool
 }
 
 /// Whether nothing holds back the tasks of `tasks`.
-fn goes_on(run: &RunState, children: &[Child]) -> bool
-    ensures { result ≡ may_go_on run.now children.now }
+fn goes_on(run: &RunState, kept: &Labels) -> bool
+    requires { kept.now.spec ≡ run.now.spec }
+    ensures { result ≡ may_go_on run.now kept.now.children }
 {
-    run.stops.is_empty() && is_none_asked(run.asked.as_slice()) && !is_any_bad(&run.spec, children)
+    run.stops.is_empty() && is_none_asked(run.asked.as_slice()) && !kept.has_bad()
 }
 
 /// Whether nothing holds back the tasks of `finally` (Tekton, Pipelines, Using Finally with your Pipeline).
@@ -60,11 +60,12 @@ fn is_ready(label: Verdict) -> bool
 }
 
 /// The first Ready task that nothing holds back.
-fn first_ready(run: &RunState, children: &[Child], labels: &[Verdict]) -> Option<u32>
+fn first_ready(run: &RunState, kept: &Labels, labels: &[Verdict]) -> Option<u32>
+    requires same { kept.now.spec ≡ run.now.spec }
     requires few { length labels.now < 2 ^ 32 }
-    ensures { result ≡ first_ready_of (may_schedule run.now children.now) 0 labels.now }
+    ensures { result ≡ first_ready_of (may_schedule run.now kept.now.children) 0 labels.now }
 {
-    let tasks = goes_on(run, children);
+    let tasks = goes_on(run, kept);
     let finally = finishes(run);
     for place in 0..labels.len() {
         let task = place as u32;
@@ -105,20 +106,18 @@ pub(crate) fn schedule(
     cache: &Cache,
     name: &str,
     run: &RunState,
-    children: &[Child],
     kept: &Labels,
     labels: &[Verdict],
 ) -> Result<Option<Act>, AllocError>
     requires fit { IsFit (seen cache.now).view run.now }
-    requires children { children.now ≡ seen_children (seen cache.now).view run.now }
     requires facts { kept.now ≡ facts_in (seen cache.now).view run.now }
     requires labels { labels.now ≡ labels_of kept.now }
     ensures { IfOk result (λ act. act ≡ schedule_row (seen cache.now).view name.now run.now labels.now) }
 {
-    if run.start.is_none() {
+    if run.start.is_none() || kept.first_ready().is_none() {
         return Ok(None);
     }
-    match first_ready(run, children, labels) {
+    match first_ready(run, kept, labels) {
         None => Ok(None),
         Some(task) => schedule_task(alloc, name, kept, task),
     }

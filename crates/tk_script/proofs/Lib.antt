@@ -1,3 +1,4 @@
+pub mod Above
 pub mod Places
 pub mod Played
 pub mod ScriptExamples

@@ -1,2 +1,3 @@
 pub mod FileTable
+pub mod Folders
 pub mod ScriptHost

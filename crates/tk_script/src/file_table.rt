@@ -5,9 +5,11 @@ ghost use Rattle.std.specs.List.{list_any};
 ghost use Rattle.std.specs.HashMap.{get_by_text, spare};
 ghost use Rattle.std.specs.Map.{lookup};
 ghost use Rattle.tk_edge.specs.Files.{is_under};
-ghost use Rattle.tk_script.specs.FileTable.{bytes_at, is_at, is_pass, put_at};
+ghost use Rattle.tk_script.specs.FileTable.{AreKnown, bytes_at, is_at, is_pass, put_at};
+ghost use Rattle.tk_script.specs.Folders.{may_hold};
 ghost use Rattle.tk_script.specs.ScriptHost.{is_plain, result_of, results_of};
 
+use crate::folders::Folders;
 use std::alloc::{AllocError, Global};
 use std::collections::HashMap;
 use tk_edge::{bytes_of, is_under};
@@ -20,6 +22,109 @@ pub(crate) struct Held {
     pub put: bool,
 }
 
+/// The files that stand, by their paths. A clear of a folder below which none stood looks at none.
+#[derive(Drop)]
+pub(crate) struct FileTable {
+    pub held: HashMap<String, Held>,
+    pub folders: Folders,
+    ghost known: { AreKnown (bytes_at (get_by_text held)) (may_hold folders) },
+}
+
+impl FileTable {
+    /// No file.
+    pub(crate) fn new(alloc: Global) -> Self
+        ensures { (q : List ℕ) → get_by_text result.held q ≡ None }
+    {
+        FileTable {
+            held: HashMap::new(alloc),
+            folders: Folders::new(alloc),
+        }
+    }
+
+    /// Makes room for so many more files. After an error, too, the files are the same.
+    pub(crate) fn widen(&mut self, count: usize) -> Result<(), AllocError>
+        ensures room { OnOk result (count ≤ spare self.new.held) }
+        ensures same { (q : List ℕ) → get_by_text self.new.held q ≡ get_by_text self.old.held q }
+    {
+        widen(&mut self.held, count)
+    }
+
+    /// The bytes of the file at a path.
+    pub(crate) fn bytes(&self, path: &str) -> Option<&[u8]>
+        ensures { option_map (λ b. b.now) result ≡ bytes_at (get_by_text self.now.held) path.now }
+    {
+        match self.held.get(path) {
+            Some(held) => Some(held.bytes.as_slice()),
+            None => None,
+        }
+    }
+
+    /// Whether the path was put.
+    pub(crate) fn is_put(&self, path: &str) -> bool
+        ensures { result ≡ put_at (get_by_text self.now.held) path.now }
+    {
+        match self.held.get(path) {
+            Some(held) => held.put,
+            None => false,
+        }
+    }
+
+    /// Writes a file where there is room, as a put or not.
+    pub(crate) fn write_within(&mut self, path: String, bytes: Bytes, put: bool)
+        requires { 0 < spare self.old.held }
+        ensures bytes { (q : List ℕ)
+            → bytes_at (get_by_text self.new.held) q ≡ (if bytes_eq q (string_bytes path) then Some bytes else bytes_at (get_by_text self.old.held) q) }
+        ensures puts { (q : List ℕ)
+            → put_at (get_by_text self.new.held) q ≡ ((put && bytes_eq q (string_bytes path)) || put_at (get_by_text self.old.held) q) }
+        ensures room { spare self.old.held ≤ spare self.new.held + 1 }
+    {
+        let put = put || self.is_put(path.as_str());
+        self.folders.note(path.as_str());
+        let _ = self.held.insert(path, Held { bytes, put });
+    }
+
+    /// Writes a file that an entry leaves, if it leaves one, where there is room.
+    pub(crate) fn leave_within(&mut self, alloc: Global, path: Option<String>)
+        requires { 0 < spare self.old.held }
+        ensures bytes { (q : List ℕ)
+            → bytes_at (get_by_text self.new.held) q
+            ≡ (if is_at q (option_map string_bytes path) then Some [] else bytes_at (get_by_text self.old.held) q) }
+        ensures puts { (q : List ℕ) → put_at (get_by_text self.new.held) q ≡ put_at (get_by_text self.old.held) q }
+    {
+        if let Some(path) = path {
+            self.write_within(path, Bytes::from_vec(Vec::new(alloc)), false);
+        }
+    }
+
+    /// Writes files where there is room for all; of those with one path the first counts.
+    pub(crate) fn write_all(&mut self, results: Vec<(String, Bytes)>)
+        requires { length results.items ≤ spare self.old.held }
+        ensures bytes { (q : List ℕ)
+            → bytes_at (get_by_text self.new.held) q
+            ≡ option_or (lookup (bytes_eq q) (map (λ r. (string_bytes r.0, r.1)) results.items)) (bytes_at (get_by_text self.old.held) q) }
+        ensures puts { (q : List ℕ) → put_at (get_by_text self.new.held) q ≡ put_at (get_by_text self.old.held) q }
+    {
+        let mut left = results;
+        while let Some((path, bytes)) = left.pop() {
+            self.write_within(path, bytes, false);
+        }
+    }
+
+    /// Takes out all files below a folder.
+    pub(crate) fn clear_below(&mut self, folder: &str)
+        ensures bytes { (q : List ℕ)
+            → bytes_at (get_by_text self.new.held) q ≡ (if is_under folder.now q then None else bytes_at (get_by_text self.old.held) q) }
+        ensures puts { (q : List ℕ)
+            → put_at (get_by_text self.new.held) q ≡ (not (is_under folder.now q) && put_at (get_by_text self.old.held) q) }
+    {
+        if !self.folders.may_hold(folder) {
+            return;
+        }
+        take_below(&mut self.held, folder);
+        self.folders.forget(folder);
+    }
+}
+
 /// Makes room for so many more entries. After an error, too, the entries are the same.
 pub(crate) fn widen<V: Drop>(table: &mut HashMap<String, V>, count: usize) -> Result<(), AllocError>
     ensures room { OnOk result (count ≤ spare table.new) }
@@ -28,48 +133,12 @@ pub(crate) fn widen<V: Drop>(table: &mut HashMap<String, V>, count: usize) -> Re
     table.reserve(count)
 }
 
-/// The bytes of the file at a path.
-pub(crate) fn held_bytes<'a>(files: &'a HashMap<String, Held>, path: &str) -> Option<&'a [u8]>
-    ensures { option_map (λ b. b.now) result ≡ bytes_at (get_by_text files.now) path.now }
+/// Takes out all files below a folder, of all that there are.
+fn take_below(files: &mut HashMap<String, Held>, folder: &str)
+    ensures bytes { (q : List ℕ) → bytes_at (get_by_text files.new) q ≡ (if is_under folder.now q then None else bytes_at (get_by_text files.old) q) }
+    ensures puts { (q : List ℕ) → put_at (get_by_text files.new) q ≡ (not (is_under folder.now q) && put_at (get_by_text files.old) q) }
 {
-    match files.get(path) {
-        Some(held) => Some(held.bytes.as_slice()),
-        None => None,
-    }
-}
-
-/// Whether the path was put.
-pub(crate) fn is_put(files: &HashMap<String, Held>, path: &str) -> bool
-    ensures { result ≡ put_at (get_by_text files.now) path.now }
-{
-    match files.get(path) {
-        Some(held) => held.put,
-        None => false,
-    }
-}
-
-/// Writes a file where there is room, as a put or not.
-pub(crate) fn write_within(files: &mut HashMap<String, Held>, path: String, bytes: Bytes, put: bool)
-    requires { 0 < spare files.old }
-    ensures bytes { (q : List ℕ)
-        → bytes_at (get_by_text files.new) q ≡ (if bytes_eq q (string_bytes path) then Some bytes else bytes_at (get_by_text files.old) q) }
-    ensures puts { (q : List ℕ) → put_at (get_by_text files.new) q ≡ ((put && bytes_eq q (string_bytes path)) || put_at (get_by_text files.old) q) }
-    ensures room { spare files.old ≤ spare files.new + 1 }
-{
-    let put = put || is_put(files, path.as_str());
-    let _ = files.insert(path, Held { bytes, put });
-}
-
-/// Writes a file that an entry leaves, if it leaves one, where there is room.
-pub(crate) fn leave_within(alloc: Global, files: &mut HashMap<String, Held>, path: Option<String>)
-    requires { 0 < spare files.old }
-    ensures bytes { (q : List ℕ)
-        → bytes_at (get_by_text files.new) q ≡ (if is_at q (option_map string_bytes path) then Some [] else bytes_at (get_by_text files.old) q) }
-    ensures puts { (q : List ℕ) → put_at (get_by_text files.new) q ≡ put_at (get_by_text files.old) q }
-{
-    if let Some(path) = path {
-        write_within(files, path, Bytes::from_vec(Vec::new(alloc)), false);
-    }
+    files.retain(|path, _| !is_under(folder, path.as_str()));
 }
 
 /// Adds a name where there is room.
@@ -78,14 +147,6 @@ pub(crate) fn add_within(names: &mut HashMap<String, ()>, name: String)
     ensures { (q : List ℕ) → is_some (get_by_text names.new q) ≡ (bytes_eq q (string_bytes name) || is_some (get_by_text names.old q)) }
 {
     let _ = names.insert(name, ());
-}
-
-/// Takes out all files below a folder.
-pub(crate) fn clear_below(files: &mut HashMap<String, Held>, folder: &str)
-    ensures bytes { (q : List ℕ) → bytes_at (get_by_text files.new) q ≡ (if is_under folder.now q then None else bytes_at (get_by_text files.old) q) }
-    ensures puts { (q : List ℕ) → put_at (get_by_text files.new) q ≡ (not (is_under folder.now q) && put_at (get_by_text files.old) q) }
-{
-    files.retain(|path, _| !is_under(folder, path.as_str()));
 }
 
 /// The results of a script with their paths.
@@ -128,20 +189,6 @@ fn result_of(
     path.push_str("/results/")?;
     path.push_str(file.key.as_str())?;
     Ok((path, bytes_of(alloc, file.value.as_str().as_bytes())?))
-}
-
-/// Writes files where there is room for all; of those with one path the first counts.
-pub(crate) fn write_all(files: &mut HashMap<String, Held>, results: Vec<(String, Bytes)>)
-    requires { length results.items ≤ spare files.old }
-    ensures bytes { (q : List ℕ)
-        → bytes_at (get_by_text files.new) q
-        ≡ option_or (lookup (bytes_eq q) (map (λ r. (string_bytes r.0, r.1)) results.items)) (bytes_at (get_by_text files.old) q) }
-    ensures puts { (q : List ℕ) → put_at (get_by_text files.new) q ≡ put_at (get_by_text files.old) q }
-{
-    let mut left = results;
-    while let Some((path, bytes)) = left.pop() {
-        write_within(files, path, bytes, false);
-    }
 }
 
 /// Whether the name is one of those of a path.

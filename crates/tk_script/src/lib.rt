@@ -5,6 +5,7 @@
 #![tactic(auto)]
 
 mod file_table;
+mod folders;
 mod pod_script;
 mod script_host;
 mod script_log;

@@ -16,10 +16,7 @@ ghost use Rattle.tk_edge.specs.Plays.{may_start};
 ghost use Rattle.tk_edge.specs.HostLog.{counts, flags};
 ghost use Rattle.tk_script.specs.ScriptHost.{EndAsScripted, EndsArmed, EndsOrder, RefuseAsScripted, RefusesScripted, script_file};
 
-use crate::file_table::{
-    Held, add_pass, add_within, clear_below, held_bytes, is_named, is_put, leave_within, widen,
-    write_all, write_within,
-};
+use crate::file_table::{FileTable, add_pass, add_within, is_named, widen};
 use crate::pod_script::PodScript;
 use crate::script_table::{ScriptTable, exit_at};
 use std::alloc::{AllocError, Global};
@@ -36,7 +33,7 @@ pub(crate) struct ScriptLog {
     alloc: Global,
     scripts: ScriptTable,
     log: HostLog,
-    files: HashMap<String, Held>,
+    files: FileTable,
     begun: HashMap<String, ()>,
     passed: HashMap<String, Vec<Text>>,
     exits: Vec<u8>,
@@ -52,7 +49,7 @@ impl Model for ScriptLog {
 
     ghost view = { λ p. record { scripts = p.scripts; log = p.log } };
 
-    ghost invariant = { λ p. IsPlayed p.scripts p.log.told (get_by_text p.files)
+    ghost invariant = { λ p. IsPlayed p.scripts p.log.told (get_by_text p.files.held)
         (λ pod. is_some (get_by_text p.begun pod)) (λ path. option_map_or (λ names. names.items) (get_by_text p.passed path) []) p.exits.items p.log.count };
 }
 
@@ -66,7 +63,7 @@ impl ScriptLog {
     {
         let scripts = ScriptTable::new(alloc, root, pods)?;
         let log = HostLog::new(alloc);
-        let files = HashMap::new(alloc);
+        let files = FileTable::new(alloc);
         let begun = HashMap::new(alloc);
         let passed = HashMap::new(alloc);
         let exits = Vec::new(alloc);
@@ -100,14 +97,14 @@ impl ScriptLog {
     pub(crate) fn file(&self, path: &str) -> Option<&[u8]>
         ensures { option_map (λ b. b.now) result ≡ script_file self.now.scripts path.now self.now.log.told }
     {
-        held_bytes(&self.files, path)
+        self.files.bytes(path)
     }
 
     /// Whether the path was put.
     pub(crate) fn was_put(&self, path: &str) -> bool
         ensures { result ≡ was_put path.now self.now.log.told }
     {
-        is_put(&self.files, path)
+        self.files.is_put(path)
     }
 
     /// Whether the wait file of a child stands with `.err`. It takes no memory.
@@ -149,8 +146,8 @@ impl ScriptLog {
         let path = String::from_str(self.alloc, path)?;
         let bytes = bytes_of(self.alloc, bytes)?;
         self.log.make_room()?;
-        widen(&mut self.files, 1)?;
-        write_within(&mut self.files, path, bytes, true);
+        self.files.widen(1)?;
+        self.files.write_within(path, bytes, true);
         self.log.note_put(told, kept, true);
         Ok(())
     }
@@ -181,7 +178,7 @@ impl ScriptLog {
     {
         let told = Text::from_str(self.alloc, folder)?;
         self.log.make_room()?;
-        clear_below(&mut self.files, folder);
+        self.files.clear_below(folder);
         self.log.note_clear(told, true);
         Ok(())
     }
@@ -235,8 +232,8 @@ impl ScriptLog {
         widen_exits(&mut self.exits)?;
         widen(&mut self.begun, 1)?;
         let left = self.scripts.results(self.alloc, &self.begun, &told.pod)?;
-        widen(&mut self.files, left.len())?;
-        write_all(&mut self.files, left);
+        self.files.widen(left.len())?;
+        self.files.write_all(left);
         add_within(&mut self.begun, pod);
         push_within(&mut self.exits, exit);
         Ok(self.log.start(told))
@@ -278,8 +275,8 @@ impl ScriptLog {
         self.log.make_room()?;
         widen(&mut self.begun, 1)?;
         let left = self.scripts.results(self.alloc, &self.begun, &told.pod)?;
-        widen(&mut self.files, left.len())?;
-        write_all(&mut self.files, left);
+        self.files.widen(left.len())?;
+        self.files.write_all(left);
         add_within(&mut self.begun, pod);
         self.log.started(child, told);
         Ok(())
@@ -339,9 +336,9 @@ impl ScriptLog {
         let post = self.post_for(child, Some(exit))?;
         let pass = self.pass_for(child, exit)?;
         self.log.make_room()?;
-        widen(&mut self.files, 1)?;
+        self.files.widen(1)?;
         add_pass(self.alloc, &mut self.passed, pass)?;
-        leave_within(self.alloc, &mut self.files, post);
+        self.files.leave_within(self.alloc, post);
         self.log.exited(child, exit);
         Ok(exit)
     }
@@ -359,8 +356,8 @@ impl ScriptLog {
     {
         let post = self.post_for(child, None)?;
         self.log.make_room()?;
-        widen(&mut self.files, 1)?;
-        leave_within(self.alloc, &mut self.files, post);
+        self.files.widen(1)?;
+        self.files.leave_within(self.alloc, post);
         self.log.refused(child);
         Ok(())
     }

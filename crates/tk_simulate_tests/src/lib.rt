@@ -3,5 +3,3 @@
 
 #[cfg(test)]
 mod answers;
-#[cfg(test)]
-mod kept;

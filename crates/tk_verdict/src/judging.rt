@@ -11,6 +11,7 @@ pub use crate::groups::Groups;
 pub use crate::judge::label_by;
 pub use crate::label::{blocks, is_done, is_skipped, is_skipped_by_when};
 pub use crate::missing::lacks_any_result;
+pub use crate::outcome::ended_well;
 pub use crate::own::{Own, own_of, own_row};
 pub use crate::parents::{is_blocked, label_at, lacks_result};
 pub use crate::sequence::{Ranked, by_rank};

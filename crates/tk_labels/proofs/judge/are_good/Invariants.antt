@@ -7,5 +7,5 @@ use Rattle.tk_labels.proofs.judge.are_good.Given as goal
 
 -- the parents that are left decide
 abbrev pub invariant-loop-place : goal.invariant-loop-place
-invariant-loop-place l = list_all (λ p. is_good_parent (of_run l.run l.groups) (p, label_at l.labels p)) (drop l.place-index l.parents)
-    ≡ list_all (λ p. is_good_parent (of_run l.run l.groups) (p, label_at l.labels p)) l.parents
+invariant-loop-place l = list_all (λ p. is_good_parent (of_run l.run l.kids) (p, label_at l.labels p)) (drop l.place-index l.parents)
+    ≡ list_all (λ p. is_good_parent (of_run l.run l.kids) (p, label_at l.labels p)) l.parents

@@ -27,7 +27,7 @@ results_of-requires c k d lt =
 
 pub bindings_in-requires : goal.bindings_in-requires
 bindings_in-requires c =
-    let facts = of_run c.args.run.now c.args.groups.now in
+    let facts = of_run c.args.run.now c.args.kids.now in
     read_has ReadsTask c.as_slice.result.now c.args.run.now.spec.tasks c.args.place c.index-as_slice-place.result (readable facts c.requires.formed).tasks c.requires.exists c.as_slice.ensures c.index-as_slice-place.is
 
 abbrev env_of : List Param → List Given → List Pair → Env
@@ -35,7 +35,7 @@ env_of params results words = record { params = params; results = results; words
 
 pub returns : goal.returns
 returns c =
-    let facts = of_run c.args.run.now c.args.groups.now in
+    let facts = of_run c.args.run.now c.args.kids.now in
     let spec = c.args.run.now.spec in
     let place = c.args.place in
     let one = c.index-as_slice-place.result in

@@ -6,4 +6,4 @@ use Rattle.tk_labels.proofs.judge.results_of.Given as goal
 
 -- the results of the tasks so far
 abbrev pub invariant-loop-place : goal.invariant-loop-place
-invariant-loop-place l = l.made ≡ flat_map (results_at (of_run l.run l.groups)) (take l.place-index l.places)
+invariant-loop-place l = l.made ≡ flat_map (results_at (of_run l.run l.kids)) (take l.place-index l.places)

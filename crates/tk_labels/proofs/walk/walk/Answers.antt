@@ -12,7 +12,7 @@ use Rattle.tk_labels.proofs.walk.walk.Goals as goal
 
 pub loop-next-init : goal.loop-next-init
 loop-next-init c =
-    let facts : Facts = of_run c.args.run.now c.args.groups.now in
+    let facts : Facts = of_run c.args.run.now c.args.kids.now in
     let many = parents_count c.args.run.now.spec.tasks c.args.parents.now c.requires.parents in
     record {
       count = omega (arith, many, c.in_ok-labels.ensures);
@@ -23,38 +23,38 @@ loop-next-init c =
 pub bounds-parents-place : goal.bounds-parents-place
 bounds-parents-place c =
     let ranked = c.requires.ranked in
-    let small = place_within (of_run c.args.run.now c.args.groups.now) ranked.ranks _ c.loop-next.next-index (record { rank = 0; place = 0 }) ranked.ranking ranked.sequence c.loop-next-test.true in
+    let small = place_within (of_run c.args.run.now c.args.kids.now) ranked.ranks _ c.loop-next.next-index (record { rank = 0; place = 0 }) ranked.ranking ranked.sequence c.loop-next-test.true in
     omega (arith, small, parents_count c.args.run.now.spec.tasks c.args.parents.now c.requires.parents)
 
 pub next_label-requires-clause-parents : goal.next_label-requires-clause-parents
 next_label-requires-clause-parents c =
     let ranked = c.requires.ranked in
     let zero : Ranked = record { rank = 0; place = 0 } in
-    let small = place_within (of_run c.args.run.now c.args.groups.now) ranked.ranks _ c.loop-next.next-index zero ranked.ranking ranked.sequence c.loop-next-test.true in
+    let small = place_within (of_run c.args.run.now c.args.kids.now) ranked.ranks _ c.loop-next.next-index zero ranked.ranking ranked.sequence c.loop-next-test.true in
     let place = (get_or c.args.sequence.now c.loop-next.next-index zero).place in
     c.as_slice-above.ensures ∙ (c.index-parents-place.is ∙ parents_at c.args.run.now.spec.tasks c.args.parents.now place _ c.requires.parents small)
 
 pub next_label-requires-clause-exists : goal.next_label-requires-clause-exists
 next_label-requires-clause-exists c =
     let ranked = c.requires.ranked in
-    place_within (of_run c.args.run.now c.args.groups.now) ranked.ranks _ c.loop-next.next-index (record { rank = 0; place = 0 }) ranked.ranking ranked.sequence c.loop-next-test.true
+    place_within (of_run c.args.run.now c.args.kids.now) ranked.ranks _ c.loop-next.next-index (record { rank = 0; place = 0 }) ranked.ranking ranked.sequence c.loop-next-test.true
 
 pub index_mut-requires : goal.index_mut-requires
 index_mut-requires c =
     let ranked = c.requires.ranked in
-    let small = place_within (of_run c.args.run.now c.args.groups.now) ranked.ranks _ c.loop-next.next-index (record { rank = 0; place = 0 }) ranked.ranking ranked.sequence c.loop-next-test.true in
+    let small = place_within (of_run c.args.run.now c.args.kids.now) ranked.ranks _ c.loop-next.next-index (record { rank = 0; place = 0 }) ranked.ranking ranked.sequence c.loop-next-test.true in
     omega (arith, small, c.loop-next.invariant.marks)
 
 pub index_mut-requires-in-loop-next : goal.index_mut-requires-in-loop-next
 index_mut-requires-in-loop-next c =
     let ranked = c.requires.ranked in
-    let small = place_within (of_run c.args.run.now c.args.groups.now) ranked.ranks _ c.loop-next.next-index (record { rank = 0; place = 0 }) ranked.ranking ranked.sequence c.loop-next-test.true in
+    let small = place_within (of_run c.args.run.now c.args.kids.now) ranked.ranks _ c.loop-next.next-index (record { rank = 0; place = 0 }) ranked.ranking ranked.sequence c.loop-next-test.true in
     omega (arith, small, c.loop-next.invariant.count)
 
 pub loop-next-preserved : goal.loop-next-preserved
 loop-next-preserved c =
     let ranked = c.requires.ranked in
-    let facts : Facts = of_run c.args.run.now c.args.groups.now in
+    let facts : Facts = of_run c.args.run.now c.args.kids.now in
     let zero : Ranked = record { rank = 0; place = 0 } in
     let place = (get_or c.args.sequence.now c.loop-next.next-index zero).place in
     let small = place_within facts ranked.ranks _ c.loop-next.next-index zero ranked.ranking ranked.sequence c.loop-next-test.true in
@@ -75,7 +75,7 @@ loop-next-preserved c =
 pub returns-clause-right : goal.returns-clause-right
 returns-clause-right c = λ old was place within.
     let ranked = c.requires.ranked in
-    let facts : Facts = of_run c.args.run.now c.args.groups.now in
+    let facts : Facts = of_run c.args.run.now c.args.kids.now in
     let all : c.loop-next.next-index ≡ length c.args.sequence.now = omega arith in
     Walks-all old facts ranked.ranks c.args.sequence.now c.args.was.now c.loop-next.labels.items c.loop-next.moved.items ranked.ranking ranked.sequence
     (subst (λ (n : ℕ). Walks old facts c.args.sequence.now c.args.was.now c.loop-next.labels.items c.loop-next.moved.items n) all (c.loop-next.invariant.walks old was)) place within

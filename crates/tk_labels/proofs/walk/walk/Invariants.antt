@@ -9,7 +9,7 @@ use Rattle.tk_labels.proofs.walk.walk.Given as goal
 pub record Kept (l : goal.Live-loop-next) : Type 0 where
   pub count : length l.labels.items ≡ length l.run.spec.tasks
   pub marks : length l.moved.items ≡ length l.run.spec.tasks
-  pub walks : (old : Facts) → WasKept old (of_run l.run l.groups) l.task l.was → Walks old (of_run l.run l.groups) l.sequence l.was l.labels.items l.moved.items l.next-index
+  pub walks : (old : Facts) → WasKept old (of_run l.run l.kids) l.task l.was → Walks old (of_run l.run l.kids) l.sequence l.was l.labels.items l.moved.items l.next-index
 
 abbrev pub invariant-loop-next : goal.invariant-loop-next
 invariant-loop-next l = Kept l

@@ -11,4 +11,4 @@ follow_run-requires c = record {
 pub returns-clause-labelled : goal.returns-clause-labelled
 returns-clause-labelled c =
     passed_run (seen c.args.cache.now) (seen c.relist.new.self) c.args.journal.now.history c.requires.legal c.args.place c.entry-entry.result.now c.entry-entry.ensures
-    c.requires.shows c.in_ok-relist.ensures.shows c.args.runs.now c.requires.labelled c.requires.at c.in_ok-relist.ensures.fronts c.follow_run.new.runs c.in_ok-follow_run.ensures
+    c.requires.shows c.in_ok-relist.ensures.shows c.args.runs.now c.requires.labelled c.requires.at c.in_ok-relist.ensures.fronts c.follow_run.new.runs c.in_ok-follow_run.ensures.changes c.in_ok-follow_run.ensures.names

@@ -39,4 +39,4 @@ returns-clause-labelled c =
     let there : (seen c.relist.new.self).view.task_run c.name.result.now ≡ Some c.in-Some.task_run.now = search rules in
     passed_task_run (seen c.args.cache.now) (seen c.relist.new.self) c.args.journal.now.history c.requires.legal c.args.place c.entry-entry.result.now c.entry-entry.ensures
     c.requires.shows c.in_ok-relist.ensures.shows c.args.runs.now c.requires.labelled c.requires.at c.in_ok-relist.ensures.fronts may c.in-Some.task_run.now
-    (subst (λ (n : List ℕ). (seen c.relist.new.self).view.task_run n ≡ Some c.in-Some.task_run.now) c.name.ensures there) c.follow_task_run.new.runs c.in_ok-follow_task_run.ensures
+    (subst (λ (n : List ℕ). (seen c.relist.new.self).view.task_run n ≡ Some c.in-Some.task_run.now) c.name.ensures there) c.follow_task_run.new.runs c.in_ok-follow_task_run.ensures.ends c.in_ok-follow_task_run.ensures.names

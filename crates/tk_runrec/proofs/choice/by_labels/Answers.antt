@@ -17,7 +17,7 @@ halt-requires c =
     let same = ap (λ (labels : List Verdict). length labels) c.requires.labels in
     let spec = ap (λ (facts : Facts). task_count facts.spec) c.requires.facts in
     let sum : task_count c.args.run.now.spec ≡ length c.args.run.now.spec.tasks + length c.args.run.now.spec.finally = refl in
-    record { apart = c.requires.fit.once; long = omega (arith, long, same, spec, sum) }
+    record { apart = c.requires.fit.once; same = ap (λ (facts : Facts). facts.spec) c.requires.facts; long = omega (arith, long, same, spec, sum) }
 
 pub returns-in-Some-3 : goal.returns-in-Some-3
 returns-in-Some-3 c =
@@ -27,7 +27,7 @@ returns-in-Some-3 c =
     let labels = c.args.labels.now in
     let closes : close view name run labels ≡ None = sym c.in_ok-act.ensures ∙ c.in_default.is in
     let halts : halt c.args.moment name run (seen_children view run) labels ≡ None =
-    ap (λ (children : List Child). halt c.args.moment name run children labels) (sym c.requires.children) ∙ sym c.in_ok-act-2.ensures ∙ c.in_default-2.is in
+    ap (λ (children : List Child). halt c.args.moment name run children labels) (ap (λ (facts : Facts). facts.children) (sym c.requires.facts)) ∙ sym c.in_ok-act-2.ensures ∙ c.in_default-2.is in
     middle_gives (close view name run labels) (halt c.args.moment name run (seen_children view run) labels) (start name run) (cancel view name run) (make_first view name run) (schedule view name run labels) c.in-Some-3.act
     closes halts (sym c.in_ok-act-3.ensures ∙ c.in-Some-3.is)
 
@@ -39,7 +39,7 @@ returns c =
     let labels = c.args.labels.now in
     let closes : close view name run labels ≡ None = sym c.in_ok-act.ensures ∙ c.in_default.is in
     let halts : halt c.args.moment name run (seen_children view run) labels ≡ None =
-    ap (λ (children : List Child). halt c.args.moment name run children labels) (sym c.requires.children) ∙ sym c.in_ok-act-2.ensures ∙ c.in_default-2.is in
+    ap (λ (children : List Child). halt c.args.moment name run children labels) (ap (λ (facts : Facts). facts.children) (sym c.requires.facts)) ∙ sym c.in_ok-act-2.ensures ∙ c.in_default-2.is in
     let same = middle_misses (close view name run labels) (halt c.args.moment name run (seen_children view run) labels) (start name run) (cancel view name run) (make_first view name run) (schedule view name run labels)
     closes halts (sym c.in_ok-act-3.ensures ∙ c.in_default-3.is) in
     subst (λ (chosen : Option Act). IfOk c.schedule.result (λ (act : Option Act). act ≡ chosen)) same c.schedule.ensures

@@ -10,7 +10,7 @@ use Rattle.tk_script.proofs.Played.{played_exited, widened, after_room}
 use Rattle.tk_script.proofs.script_log.ScriptLog.end.Goals as goal
 
 pub invariant_of-self-2 : goal.invariant_of-self-2
-invariant_of-self-2 c = played_exited _ _ (get_by_text c.widen.new.table) _ _ _ _ (widened _ _ _ _ _ _ _ _ _ c.in_ok-widen.ensures.same (λ q. refl) c.self.invariant) _ c.exit_at-exit.result
+invariant_of-self-2 c = played_exited _ _ (get_by_text c.widen.new.self.held) _ _ _ _ (widened _ _ _ _ _ _ _ _ _ c.in_ok-widen.ensures.same (λ q. refl) c.self.invariant) _ c.exit_at-exit.result
     (λ q. is_at q (option_map string_bytes c.in_ok-post.post)) (λ pod q. is_pass pod q (option_map (λ p. (string_bytes p.0, p.1)) c.in_ok-pass.pass)) _ _ _ _
     (after_room _ _ _ _ c.exited.ensures.told c.in_ok-make_room.ensures.told) (c.exited.ensures.count ∙ c.in_ok-make_room.ensures.count)
     (sym (c.exit_at-exit.ensures ∙ ap (λ xs. slice_index_or xs c.args.child 0) c.deref.ensures.value))

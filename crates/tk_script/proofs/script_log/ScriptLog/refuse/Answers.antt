@@ -11,7 +11,7 @@ use Rattle.tk_script.proofs.Played.{played_refused, widened, after_room}
 use Rattle.tk_script.proofs.script_log.ScriptLog.refuse.Goals as goal
 
 pub invariant_of-self-2 : goal.invariant_of-self-2
-invariant_of-self-2 c = played_refused _ _ (get_by_text c.widen.new.table) _ _ _ _ (widened _ _ _ _ _ _ _ _ _ c.in_ok-widen.ensures.same (λ q. refl) c.self.invariant) _ (λ q. is_at q (option_map string_bytes c.in_ok-post.post)) _ _ _
+invariant_of-self-2 c = played_refused _ _ (get_by_text c.widen.new.self.held) _ _ _ _ (widened _ _ _ _ _ _ _ _ _ c.in_ok-widen.ensures.same (λ q. refl) c.self.invariant) _ (λ q. is_at q (option_map string_bytes c.in_ok-post.post)) _ _ _
     (after_room _ _ _ _ c.refused.ensures.told c.in_ok-make_room.ensures.told) (c.refused.ensures.count ∙ c.in_ok-make_room.ensures.count)
     (λ q. c.in_ok-post.ensures q ∙ ap (λ (p : Played). leaves q None (arming_of c.args.child p.log.told)) (sym c.self.view_is))
     c.leave_within.ensures.bytes c.leave_within.ensures.puts
