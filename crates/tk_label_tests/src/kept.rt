@@ -47,7 +47,11 @@ fn input(alloc: Global, runs: &str, scenario: &str) -> Result<Vec<u8>, AllocErro
 }
 
 /// The world behind an input's events.
-pub(crate) fn played(alloc: Global, runs: &str, scenario: &str) -> Result<Option<World>, AllocError> {
+pub(crate) fn played(
+    alloc: Global,
+    runs: &str,
+    scenario: &str,
+) -> Result<Option<World>, AllocError> {
     let bytes = input(alloc, runs, scenario)?;
     match start(alloc, bytes.as_slice()) {
         Ok(started) => {

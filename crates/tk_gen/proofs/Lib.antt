@@ -1,0 +1,3 @@
+mod Drawn
+pub mod Examples
+mod Joined
