@@ -47,11 +47,7 @@ fn input(alloc: Global, runs: &str, scenario: &str) -> Result<Vec<u8>, AllocErro
 }
 
 /// The world behind an input's events.
-pub(crate) fn played(
-    alloc: Global,
-    runs: &str,
-    scenario: &str,
-) -> Result<Option<World>, AllocError> {
+fn played(alloc: Global, runs: &str, scenario: &str) -> Result<Option<World>, AllocError> {
     let bytes = input(alloc, runs, scenario)?;
     match start(alloc, bytes.as_slice()) {
         Ok(started) => {
@@ -64,7 +60,7 @@ pub(crate) fn played(
 }
 
 /// A cache that has seen nothing of a journal yet.
-pub(crate) fn fresh(alloc: Global, journal: &Journal) -> RunCache
+fn fresh(alloc: Global, journal: &Journal) -> RunCache
     ensures { Shows (seen result) journal.now.history }
 {
     nothing_shows();
@@ -72,7 +68,7 @@ pub(crate) fn fresh(alloc: Global, journal: &Journal) -> RunCache
 }
 
 /// Shows a cache a kind as it stood at a position, or at the end.
-pub(crate) fn show(
+fn show(
     cache: &mut RunCache,
     journal: &Journal,
     kind: Kind,
@@ -97,7 +93,7 @@ fn letter(label: Verdict) -> &'static str {
 }
 
 /// A letter for each task.
-pub(crate) fn letters(alloc: Global, labels: &[Verdict]) -> Result<String, AllocError> {
+fn letters(alloc: Global, labels: &[Verdict]) -> Result<String, AllocError> {
     let mut line = String::new(alloc);
     for label in labels {
         line.push_str(letter(*label))?;

@@ -1,7 +1,5 @@
-//! Kept labels beside those made anew, over the journals of worlds.
+//! Kept labels at each position of a world's journal.
 #![tactic(auto)]
 
 #[cfg(test)]
 mod kept;
-#[cfg(test)]
-mod random;
