@@ -3,10 +3,10 @@ pub mod Counts
 pub mod Held
 pub mod Named
 pub mod Nexts
+pub mod Owned
 pub mod Passed
 pub mod Passing
 pub mod Placed
 pub mod Positions
-pub mod Reading
 pub mod Showing
 pub mod Steps

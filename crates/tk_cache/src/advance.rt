@@ -1,11 +1,13 @@
 ghost use Rattle.std.specs.Prelude.{◌≡◌, ◌≤◌, ◌<◌, ◌+◌, ◌^◌, length, OnOk};
 ghost use Rattle.tk_journal.specs.History.{past, run_of};
 ghost use Rattle.tk_journal.specs.Legal.{IsLegal};
+ghost use Rattle.tk_cache.specs.Children.{AreOwned};
 ghost use Rattle.tk_cache.specs.Shown.{ArePods, AreRuns, AreTaskRuns, Stand};
 
 use crate::front::is_of;
 use crate::objects::{Objects, write_pod, write_run, write_task_run};
 use std::alloc::{AllocError, Global};
+use tk_groups::Groups;
 use tk_journal::{Journal, PodState, RunState, TaskRunState};
 use tk_types::Kind;
 
@@ -116,6 +118,7 @@ fn pass_beside(
 fn pass_task_run(
     alloc: Global,
     task_runs: &mut Objects<TaskRunState>,
+    owned: &mut Groups,
     runs: &Objects<RunState>,
     journal: &Journal,
     place: u64,
@@ -125,13 +128,15 @@ fn pass_task_run(
     requires small { place + 1 < 2 ^ 64 }
     requires runs { Stand (run_of (past place journal.now.history)) runs.now }
     requires shows { AreTaskRuns (past place journal.now.history) task_runs.old }
-    ensures { OnOk result (AreTaskRuns (past (place + 1) journal.now.history) task_runs.new) }
+    requires owned { AreOwned task_runs.old owned.old }
+    ensures shows { OnOk result (AreTaskRuns (past (place + 1) journal.now.history) task_runs.new) }
+    ensures owned { OnOk result (AreOwned task_runs.new owned.new) }
 {
     let entry = journal.entry(place + 1);
     if !is_of(Kind::TaskRuns, &entry.act) {
         return Ok(());
     }
-    write_task_run(alloc, task_runs, runs, place + 1, entry)?;
+    write_task_run(alloc, task_runs, owned, runs, place + 1, entry)?;
     Ok(())
 }
 
@@ -139,6 +144,7 @@ fn pass_task_run(
 pub(crate) fn advance_task_runs(
     alloc: Global,
     task_runs: &mut Objects<TaskRunState>,
+    owned: &mut Groups,
     runs: &mut Objects<RunState>,
     journal: &Journal,
     from: u64,
@@ -149,11 +155,13 @@ pub(crate) fn advance_task_runs(
     requires within { to ≤ length journal.now.history }
     requires beside { Stand (run_of (past from journal.now.history)) runs.old }
     requires shows { AreTaskRuns (past from journal.now.history) task_runs.old }
+    requires owned { AreOwned task_runs.old owned.old }
     ensures beside { OnOk result (Stand (run_of (past to journal.now.history)) runs.new) }
     ensures shows { OnOk result (AreTaskRuns (past to journal.now.history) task_runs.new) }
+    ensures owned { OnOk result (AreOwned task_runs.new owned.new) }
 {
     for place in from..to {
-        pass_task_run(alloc, task_runs, runs, journal, place)?;
+        pass_task_run(alloc, task_runs, owned, runs, journal, place)?;
         pass_beside(alloc, runs, journal, place)?;
     }
     Ok(())

@@ -12,11 +12,12 @@ use crate::objects::Objects;
 use indexmap::IndexMap;
 use std::alloc::{AllocError, Global};
 use std::marker::Model;
+use tk_groups::Groups;
 use tk_journal::{Fronts, Journal, PodState, RunState, TaskRunState};
 use tk_types::Kind;
 
 /// The objects of each kind as they stood at the kind's front, and beside the TaskRuns the runs as they stand at that front,
-/// from which a child takes what its run has.
+/// from which a child takes what its run has, and the names of each run's TaskRuns.
 #[derive(Drop)]
 pub struct Cache {
     alloc: Global,
@@ -24,15 +25,19 @@ pub struct Cache {
     pub(crate) runs: Objects<RunState>,
     pub(crate) beside: Objects<RunState>,
     pub(crate) task_runs: Objects<TaskRunState>,
+    pub(crate) owned: Groups,
     pub(crate) pods: Objects<PodState>,
 }
 
 impl Model for Cache {
+    ghost use Rattle.tk_cache.specs.Children.{AreOwned};
     ghost use Rattle.tk_cache.specs.Views.{Kept, kept_of};
 
     ghost Value = { Kept };
 
     ghost view = { λ c. kept_of c.fronts c.runs c.beside c.task_runs c.pods };
+
+    ghost invariant = { λ c. AreOwned c.task_runs c.owned };
 }
 
 impl Cache {
@@ -50,6 +55,7 @@ impl Cache {
             runs: IndexMap::new(alloc),
             beside: IndexMap::new(alloc),
             task_runs: IndexMap::new(alloc),
+            owned: Groups::new(alloc),
             pods: IndexMap::new(alloc),
         }
     }
@@ -135,16 +141,26 @@ impl Cache {
         ensures fronts { OnOk result (self.new.fronts ≡ with_front TaskRuns to self.old.fronts) }
         ensures shows { OnOk result (Shows (seen self.new) journal.now.history) }
     {
-        advance_task_runs(
-            self.alloc,
+        let alloc = self.alloc;
+        match advance_task_runs(
+            alloc,
             &mut self.task_runs,
+            &mut self.owned,
             &mut self.beside,
             journal,
             self.fronts.task_runs,
             to,
-        )?;
-        self.fronts.task_runs = to;
-        Ok(())
+        ) {
+            Ok(()) => {
+                self.fronts.task_runs = to;
+                Ok(())
+            }
+            Err(error) => {
+                self.task_runs = IndexMap::new(alloc);
+                self.owned = Groups::new(alloc);
+                Err(error)
+            }
+        }
     }
 
     fn advance_pods(&mut self, journal: &Journal, to: u64) -> Result<(), AllocError>
@@ -186,6 +202,7 @@ impl Cache {
     {
         self.beside = IndexMap::new(self.alloc);
         self.task_runs = IndexMap::new(self.alloc);
+        self.owned = Groups::new(self.alloc);
         self.fronts.task_runs = 0;
     }
 

@@ -2,11 +2,13 @@ ghost use Rattle.std.specs.Prelude.{◌≡◌, ◌++◌, ◌∷◌, [], ℕ, Lis
 ghost use Rattle.tk_types.specs.declared.scenario.Kind.TheVariants.{Runs, TaskRuns, Pods};
 ghost use Rattle.tk_journal.specs.Effects.{name_of, kind_of, same_kind, run_made, task_run_made, pod_made};
 ghost use Rattle.tk_journal.specs.Made.{MakesOrChanges};
+ghost use Rattle.tk_cache.specs.Children.{AreOwned, IsNoted};
 ghost use Rattle.tk_cache.specs.Objects.{held_at, object_at, names_in};
 ghost use Rattle.tk_cache.specs.Written.{AreRunsAfter, AreTaskRunsAfter, ArePodsAfter, names_after};
 
 use indexmap::IndexMap;
 use std::alloc::{AllocError, Global};
+use tk_groups::Groups;
 use tk_journal::{Act, Entry, PodState, RunState, TaskRunState};
 use tk_types::Kind;
 
@@ -110,18 +112,31 @@ fn task_run_made(
     TaskRunState::made(alloc, act, None)
 }
 
-/// Lets an entry change the TaskRuns, beside the runs as they stand before it.
+/// Notes the name of a TaskRun that is new among those of its run, where it has one.
+fn note(owned: &mut Groups, task_run: &TaskRunState, name: &str) -> Result<(), AllocError>
+    ensures { OnOk result (IsNoted task_run.now.run name.now owned.old owned.new) }
+{
+    if let Some(run) = &task_run.run {
+        owned.add(run.as_str(), name)?;
+    }
+    Ok(())
+}
+
+/// Lets an entry change the TaskRuns and what is kept of whose they are, beside the runs as they stand before it.
 pub(crate) fn write_task_run(
     alloc: Global,
     task_runs: &mut Objects<TaskRunState>,
+    owned: &mut Groups,
     runs: &Objects<RunState>,
     position: u64,
     entry: &Entry,
 ) -> Result<(), AllocError>
     requires kind { same_kind TaskRuns (kind_of entry.now.act) ≡ true }
     requires fits { MakesOrChanges TaskRuns entry.now (task_run_made (object_at runs.now) entry.now.act) (object_at task_runs.old (name_of entry.now.act)) }
+    requires owned { AreOwned task_runs.old owned.old }
     ensures at { OnOk result (AreTaskRunsAfter (object_at runs.now) entry.now position task_runs.old task_runs.new) }
     ensures names { OnOk result (names_in task_runs.new ≡ names_after TaskRuns entry.now.act (names_in task_runs.old)) }
+    ensures owned { OnOk result (AreOwned task_runs.new owned.new) }
 {
     let name = entry.act.name();
     if let Some(held) = task_runs.get_mut(name) {
@@ -130,6 +145,7 @@ pub(crate) fn write_task_run(
         return Ok(());
     }
     if let Some(object) = task_run_made(alloc, runs, &entry.act)? {
+        note(owned, &object, name)?;
         let version = position;
         add(alloc, task_runs, name, Held { object, version })?;
     }

@@ -1,14 +1,13 @@
-ghost use Rattle.std.specs.Prelude.{◌≡◌, ◌<◌, ◌++◌, ◌∷◌, [], ℕ, List as Items, length, slice_get, Some, IfOk, OnOk, option_copied};
+ghost use Rattle.std.specs.Prelude.{◌≡◌, ◌<◌, ℕ, List as Items, length, slice_get, Some, option_copied};
 ghost use Rattle.std.specs.Map.{keys_of};
-ghost use Rattle.tk_cache.specs.Children.{children_of, is_name};
+ghost use Rattle.tk_cache.specs.Children.{children_of};
 ghost use Rattle.tk_places.specs.Places.{IsPlaceOf};
 ghost use Rattle.tk_cache.specs.Views.{named, object_in, seen, version_in};
 
 use crate::cache::Cache;
 use crate::objects::{Objects, object_of};
-use std::alloc::{AllocError, Global};
 use tk_journal::{Fronts, PodState, RunState, TaskRunState};
-use tk_types::{Kind, List, Text};
+use tk_types::{Kind, Text};
 
 /// An object by its name.
 fn object<'a, T>(objects: &'a Objects<T>, name: &str) -> Option<&'a T>
@@ -57,24 +56,6 @@ fn at<T>(objects: &Objects<T>, place: u64) -> &T
         Some((_, held)) => &held.object,
         None => unreachable!(),
     }
-}
-
-/// Whether a TaskRun was made for a run.
-fn is_made_for(run: &str, task_run: &TaskRunState) -> bool
-    ensures { result ≡ is_name run.now task_run.now.run }
-{
-    match &task_run.run {
-        Some(name) => name.as_str() == run,
-        None => false,
-    }
-}
-
-/// Adds a name behind these.
-fn add_name(alloc: Global, names: &mut Vec<Text>, name: &str) -> Result<(), AllocError>
-    ensures { OnOk result (names.new.items ≡ names.old.items ++ name.now ∷ []) }
-{
-    names.push(Text::from_str(alloc, name)?)?;
-    Ok(())
 }
 
 impl Cache {
@@ -200,17 +181,10 @@ impl Cache {
         place_of(&self.pods, name)
     }
 
-    /// The names of a run's TaskRuns, in order of creation. The only error is want of memory.
-    pub fn children(&self, alloc: Global, run: &str) -> Result<List<Text>, AllocError>
-        ensures { IfOk result (λ names. names ≡ children_of (seen self.now).view run.now) }
+    /// The names of a run's TaskRuns, in order of creation.
+    pub fn children(&self, run: &str) -> &[Text]
+        ensures { result.now ≡ children_of (seen self.now).view run.now }
     {
-        let mut names = Vec::new(alloc);
-        for place in 0..self.task_run_count() {
-            let name = self.task_run_name(place);
-            if is_made_for(run, self.task_run_at(place)) {
-                add_name(alloc, &mut names, name)?;
-            }
-        }
-        Ok(List::from_vec(names))
+        self.owned.of(run)
     }
 }

@@ -41,7 +41,7 @@ fn an_empty_cache_has_nothing(rt: HostRuntime) -> Result<(), Fail> {
     );
     assert!(rt; cache.run("r").is_none());
     assert_eq!(rt; cache.version(Kind::Runs, "r"), 0);
-    assert!(rt; cache.children(alloc, "r")?.is_empty());
+    assert!(rt; cache.children("r").is_empty());
     Ok(())
 }
 
@@ -69,8 +69,9 @@ fn a_child_is_seen_before_its_run(rt: HostRuntime) -> Result<(), Fail> {
     cache.deliver(&journal, Kind::TaskRuns, 1)?;
     let seen = cache.front();
     assert_eq!(rt; (seen.runs, seen.task_runs), (0, 4));
-    let children = cache.children(alloc, "r")?;
+    let children = cache.children("r");
     assert_eq!(rt; children.len(), 1);
+    assert!(rt; children.iter().all(|name| name.as_str() == "r-a"));
     assert!(rt;
         cache
             .task_run("r-a")

@@ -106,6 +106,13 @@ impl Labels {
         let _ = &self.run;
     }
 
+    /// The facts themselves, as a value of their own. The only error is want of memory.
+    pub fn facts(&self, alloc: Global) -> Result<Facts, AllocError>
+        ensures { IfOk result (λ facts. facts ≡ self.now) }
+    {
+        whole(alloc, &self.run, self.children.as_slice())
+    }
+
     /// The label of each task, those of `tasks` first. It takes no memory.
     pub fn labels(&self) -> &[Verdict]
         ensures { result.now ≡ labels_of self.now }

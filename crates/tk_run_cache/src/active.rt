@@ -1,11 +1,11 @@
 //! Whether a run can still get an entry.
-ghost use Rattle.std.specs.Prelude.{◌≡◌, ℕ, List, Some, option_copied, IfOk, OnOk};
+ghost use Rattle.std.specs.Prelude.{◌≡◌, ℕ, List, Some, option_copied, OnOk};
 ghost use Rattle.std.specs.List.{list_any};
 ghost use Rattle.tk_cache.specs.Views.{seen};
 ghost use Rattle.tk_run_cache.specs.Active.{IsJudged, is_open as is_open_task_run, may_get_at};
 
 use crate::labelled_cache::LabelledCache;
-use std::alloc::{AllocError, Global};
+use std::alloc::AllocError;
 use tk_cache::Cache;
 use tk_journal::{RunState, TaskRunState};
 use tk_places::Places;
@@ -31,22 +31,20 @@ fn any_open(cache: &Cache, names: &[Text]) -> bool
 }
 
 /// Whether a run can get an entry. Of an open one this looks at no TaskRun.
-fn may_get(alloc: Global, cache: &Cache, name: &str, run: &RunState) -> Result<bool, AllocError>
-    ensures { IfOk result (λ may. may ≡ may_get_at (seen cache.now).view name.now (Some run.now)) }
+fn may_get(cache: &Cache, name: &str, run: &RunState) -> bool
+    ensures { result ≡ may_get_at (seen cache.now).view name.now (Some run.now) }
 {
     if run.closed.is_none() {
-        return Ok(true);
+        return true;
     }
     if run.stops.is_empty() {
-        return Ok(false);
+        return false;
     }
-    let children = cache.children(alloc, name)?;
-    Ok(any_open(cache, children.as_slice()))
+    any_open(cache, cache.children(name))
 }
 
 /// Judges the run of a name anew, if it is there.
 pub(crate) fn judge(
-    alloc: Global,
     cache: &LabelledCache,
     active: &mut Places,
     name: &str,
@@ -57,14 +55,13 @@ pub(crate) fn judge(
         return Ok(());
     };
     let shown = cache.cache();
-    let may = may_get(alloc, shown, name, shown.run_at(place))?;
+    let may = may_get(shown, name, shown.run_at(place));
     active.set(place, may)?;
     Ok(())
 }
 
 /// Judges the run of a name anew, if it is there, once this is one of its TaskRuns. While that is open, no other is looked at.
 pub(crate) fn judge_by(
-    alloc: Global,
     cache: &LabelledCache,
     active: &mut Places,
     name: &str,
@@ -73,7 +70,7 @@ pub(crate) fn judge_by(
     ensures { OnOk result (IsJudged (seen cache.now).view name.now active.old active.new) }
 {
     if !is_open(Some(task_run)) {
-        return judge(alloc, cache, active, name);
+        return judge(cache, active, name);
     }
     let Some(place) = cache.place(name) else {
         return Ok(());

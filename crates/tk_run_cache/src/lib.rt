@@ -1,6 +1,7 @@
 //! The cache of a run worker: a cache, and beside it the labels of each run that it shows, the children that have no
-//! TaskRun yet, and the places of the runs that can still get an entry. They follow each entry that the cache is told of, so no
-//! run is labelled anew, and a run worker looks at no run that is done.
+//! TaskRun yet, and the places of the runs that can still get an entry. They follow each entry that the cache is told of: a
+//! run worker labels no run at its turns, and looks at none that is done. A list that goes back to an older position follows
+//! all runs anew.
 #![tactic(auto)]
 
 mod active;

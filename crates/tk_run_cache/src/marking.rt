@@ -21,14 +21,13 @@ fn judge_all(alloc: Global, cache: &LabelledCache) -> Result<Places, AllocError>
     let mut active = Places::new(alloc);
     let shown = cache.cache();
     for place in 0..shown.run_count() {
-        judge(alloc, cache, &mut active, shown.run_name(place))?;
+        judge(cache, &mut active, shown.run_name(place))?;
     }
     Ok(active)
 }
 
 /// The runs one position further.
 fn pass_run(
-    alloc: Global,
     cache: &mut LabelledCache,
     active: &mut Places,
     journal: &Journal,
@@ -46,12 +45,11 @@ fn pass_run(
 {
     cache.relist(journal, Kind::Runs, place + 1)?;
     let entry = journal.entry(place + 1);
-    judge(alloc, cache, active, entry.act.name())
+    judge(cache, active, entry.act.name())
 }
 
 /// The TaskRuns one position further: the run of the one that the entry names may have an open one now, or none any more.
 fn pass_task_run(
-    alloc: Global,
     cache: &mut LabelledCache,
     active: &mut Places,
     journal: &Journal,
@@ -75,12 +73,11 @@ fn pass_task_run(
     let Some(run) = &task_run.run else {
         return Ok(());
     };
-    judge_by(alloc, cache, active, run.as_str(), task_run)
+    judge_by(cache, active, run.as_str(), task_run)
 }
 
 /// Puts the front of runs at a position that isn't older.
 fn advance_runs(
-    alloc: Global,
     cache: &mut LabelledCache,
     active: &mut Places,
     journal: &Journal,
@@ -97,14 +94,13 @@ fn advance_runs(
 {
     let from = cache.cache().front().runs;
     for place in from..to {
-        pass_run(alloc, cache, active, journal, place)?;
+        pass_run(cache, active, journal, place)?;
     }
     Ok(())
 }
 
 /// Puts the front of TaskRuns at a position that isn't older.
 fn advance_task_runs(
-    alloc: Global,
     cache: &mut LabelledCache,
     active: &mut Places,
     journal: &Journal,
@@ -121,7 +117,7 @@ fn advance_task_runs(
 {
     let from = cache.cache().front().task_runs;
     for place in from..to {
-        pass_task_run(alloc, cache, active, journal, place)?;
+        pass_task_run(cache, active, journal, place)?;
     }
     Ok(())
 }
@@ -187,8 +183,8 @@ pub(crate) fn relist(
         return list_anew(alloc, cache, active, journal, kind, position);
     }
     match kind {
-        Kind::Runs => advance_runs(alloc, cache, active, journal, position),
-        Kind::TaskRuns => advance_task_runs(alloc, cache, active, journal, position),
+        Kind::Runs => advance_runs(cache, active, journal, position),
+        Kind::TaskRuns => advance_task_runs(cache, active, journal, position),
         Kind::Pods => list_pods(cache, active, journal, position),
     }
 }

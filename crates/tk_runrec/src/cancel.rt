@@ -64,8 +64,7 @@ pub(crate) fn cancel(
     if run.stops.is_empty() {
         return Ok(None);
     }
-    let names = cache.children(alloc, name)?;
-    match first_unmarked(alloc, cache, names.as_slice(), run)? {
+    match first_unmarked(alloc, cache, cache.children(name), run)? {
         None => Ok(None),
         Some(found) => Ok(Some(Act::CancelTaskRun { name: found.name })),
     }

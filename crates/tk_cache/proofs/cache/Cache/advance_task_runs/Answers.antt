@@ -14,7 +14,7 @@ advance_task_runs-requires-clause-shows c =
     let shows : Shows (seen (kept_of c.self.inside.fronts c.self.inside.runs c.self.inside.beside c.self.inside.task_runs c.self.inside.pods)) c.args.journal.now.history = subst (λ (k : Kept). Shows (seen k) c.args.journal.now.history) (sym c.self.view_is) c.requires.shows in
     shown_task_runs c.self.inside.fronts c.self.inside.runs c.self.inside.beside c.self.inside.task_runs c.self.inside.pods c.args.journal.now.history shows
 
-pub returns-clause-shows : goal.returns-clause-shows
-returns-clause-shows c =
+pub returns-in-Ok-clause-shows : goal.returns-in-Ok-clause-shows
+returns-in-Ok-clause-shows c =
     let shows : Shows (seen (kept_of c.self.inside.fronts c.self.inside.runs c.self.inside.beside c.self.inside.task_runs c.self.inside.pods)) c.args.journal.now.history = subst (λ (k : Kept). Shows (seen k) c.args.journal.now.history) (sym c.self.view_is) c.requires.shows in
-    with_task_runs c.self.inside.fronts c.self.inside.runs c.self.inside.beside c.self.inside.task_runs c.self.inside.pods c.args.journal.now.history shows c.args.to c.advance_task_runs.new.runs c.advance_task_runs.new.task_runs c.requires.within c.in_ok-advance_task_runs.ensures.beside c.in_ok-advance_task_runs.ensures.shows
+    with_task_runs c.self.inside.fronts c.self.inside.runs c.self.inside.beside c.self.inside.task_runs c.self.inside.pods c.args.journal.now.history shows c.args.to c.advance_task_runs.new.runs c.advance_task_runs.new.task_runs c.requires.within c.in-Ok.ensures.beside c.in-Ok.ensures.shows

@@ -1,14 +1,12 @@
-use Rattle.std.proofs.Common.{sym, ◌∙◌}
-use Rattle.tk_cache.proofs.Reading.{child_more, child_same}
+use Rattle.std.proofs.Common.{◌≡◌, ◌∙◌, subst}
+use Rattle.tk_groups.specs.Groups.{names_of}
+use Rattle.tk_cache.specs.Children.{children_of}
+use Rattle.tk_cache.specs.Views.{Kept, seen}
+use Rattle.tk_cache.proofs.Owned.{owned_seen}
 use Rattle.tk_cache.proofs.cache.Cache.children.Goals as goal
-use Rattle.tk_cache.proofs.cache.Cache.children.Goals.{then-is_made_for+in_ok-add_name, else-is_made_for}
 
-pub loop-place-preserved : goal.loop-place-preserved
-loop-place-preserved c = elim c.if-is_made_for.branch [
-  | then-is_made_for+in_ok-add_name w ↦
-      rw w.names-is (child_more c.args.self.now c.args.run.now c.loop-place.place c.task_run_name-name.result.now c.task_run_at.result.now c.task_run_name-name.ensures c.task_run_at.ensures c.loop-place.names.items c.loop-place.invariant
-      (sym c.is_made_for.ensures ∙ w.if-is_made_for.true) w.add_name.new.names.items w.in_ok-add_name.ensures)
-  | else-is_made_for w ↦
-      rw w.names-is (child_same c.args.self.now c.args.run.now c.loop-place.place c.task_run_name-name.result.now c.task_run_at.result.now c.task_run_name-name.ensures c.task_run_at.ensures c.loop-place.names.items c.loop-place.invariant
-      (sym c.is_made_for.ensures ∙ w.if-is_made_for.false))
-]
+pub returns : goal.returns
+returns c =
+    c.of.ensures
+    ∙ subst (λ (k : Kept). names_of c.self.inside.owned c.args.run.now ≡ children_of (seen k).view c.args.run.now) c.self.view_is
+    (owned_seen c.self.inside.task_runs c.self.inside.owned c.self.invariant c.args.run.now)
