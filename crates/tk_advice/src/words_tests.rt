@@ -3,7 +3,7 @@ use std::alloc::{AllocError, Global};
 use tk_types::Text;
 
 /// Words that are no command, and what is said of them.
-const ROWS: [(&str, &str); 7] = [
+const ROWS: [(&str, &str); 9] = [
     ("", "there is no command"),
     (
         "--help",
@@ -20,6 +20,14 @@ const ROWS: [(&str, &str); 7] = [
     ),
     (
         "simulate --jsno",
+        "an option isn't one of the command's, or stands twice",
+    ),
+    (
+        "generate 1",
+        "`generate` takes a number below 2147483648 and a size of 1 to 4000",
+    ),
+    (
+        "generate --json 1 2",
         "an option isn't one of the command's, or stands twice",
     ),
     (

@@ -60,7 +60,7 @@ fn played(alloc: Global, runs: &str, scenario: &str) -> Result<Option<World>, Al
 }
 
 /// A cache that has seen nothing of a journal yet.
-fn fresh(alloc: Global, journal: &Journal) -> RunCache
+pub(crate) fn fresh(alloc: Global, journal: &Journal) -> RunCache
     ensures { Shows (seen result) journal.now.history }
 {
     nothing_shows();
@@ -68,7 +68,7 @@ fn fresh(alloc: Global, journal: &Journal) -> RunCache
 }
 
 /// Shows a cache a kind as it stood at a position, or at the end.
-fn show(
+pub(crate) fn show(
     cache: &mut RunCache,
     journal: &Journal,
     kind: Kind,

@@ -1,5 +1,8 @@
-//! Kept labels at each position of a world's journal.
+//! Kept labels at each position of a world's journal: as they are told for two runs, and beside labels made anew for fifty
+//! runs that are drawn.
 #![tactic(auto)]
 
 #[cfg(test)]
 mod kept;
+#[cfg(test)]
+mod random;

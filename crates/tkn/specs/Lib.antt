@@ -6,3 +6,5 @@ pub mod Unread
 pub mod Written
 pub mod Run
 pub mod RunWords
+pub mod Generate
+pub mod GenerateWords

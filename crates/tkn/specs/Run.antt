@@ -14,6 +14,7 @@ use Rattle.tk_run.specs.Run.{IsRun, fault_by, given_by}
 use Rattle.tkn.specs.declared.answer.Answer.{Answer}
 use Rattle.tkn.specs.declared.command.Command.{Command}
 use Rattle.tkn.specs.declared.due.Due.{Due}
+use Rattle.tkn.specs.declared.generate_words.Generation.{Generation}
 use Rattle.tkn.specs.declared.top.Unrun.{Unrun}
 use Rattle.tkn.specs.declared.top.Unrun.TheVariants as unrun
 use Rattle.tkn.specs.Answer.{reported}
@@ -22,11 +23,13 @@ use Rattle.tkn.specs.Plain.{IsOver, Told}
 use Rattle.tkn.specs.declared.run_words.RunOptions.{RunOptions}
 use Rattle.tkn.specs.Written.{AppendsFront}
 
--- the words are neither options of `run` nor another command
-abbrev pub IsUsage : Option (Option RunOptions) → Option Command → Type 0
-IsUsage (Some None) command = ⊤
-IsUsage (Some (Some options)) command = ⊥
-IsUsage None command = command ≡ None
+-- the words are neither options of `run`, nor words of `generate`, nor another command
+abbrev pub IsUsage : Option (Option RunOptions) → Option (Option Generation) → Option Command → Type 0
+IsUsage (Some None) generation command = ⊤
+IsUsage (Some (Some options)) generation command = ⊥
+IsUsage None (Some None) command = ⊤
+IsUsage None (Some (Some wanted)) command = ⊥
+IsUsage None None command = command ≡ None
 
 -- this is due for a run that came to such an end: the report of its journal, or the line of the input's fault
 abbrev pub IsDueOf : Bool → List Entry → Result (Unit {0}) Rejected → Due → Type 0

@@ -97,7 +97,7 @@ fn decide(alloc: Global, bytes: &[u8]) -> Result<Due, AllocError>
 }
 
 /// What is due without a journal.
-fn without_journal(alloc: Global, due: Due) -> Answer
+pub(crate) fn without_journal(alloc: Global, due: Due) -> Answer
     ensures due { result.due ≡ due }
     ensures journal { result.journal.history ≡ [] }
 {

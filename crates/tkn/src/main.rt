@@ -15,11 +15,14 @@ mod data_tests;
 #[cfg(test)]
 mod decision_tests;
 mod due;
+mod generate;
+mod generate_words;
 mod input;
 mod output;
 #[cfg(test)]
 mod outside_tests;
 mod plain;
+mod printing;
 mod remembering;
 #[cfg(test)]
 mod rule_tests;

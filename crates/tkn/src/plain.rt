@@ -5,7 +5,7 @@ ghost use Rattle.tkn.specs.Plain.{is_answer, IsReadDue, Prints, PrintsFront, Pri
 ghost use Rattle.tkn.specs.Command.{command_of as command_of_words};
 
 use crate::answer::{Answer, answer_of, too_long_answer};
-use crate::command::{Command, command_of};
+use crate::command::{Command, command_of, read_command};
 use crate::input::{Unread, read_all};
 use crate::output::write_all;
 use std::alloc::Global;
@@ -105,8 +105,12 @@ pub fn plain<R: Source, W: Sink>(
     ensures sink_failed_front { result.status ≡ 5 → ForSome (command_of_words words.now) (λ command. PrintsReadFront command (R.left input.old) (R.ended input.new) (W.written sink.old) (W.written sink.new) result.journal.history) }
     ensures memory_front { result.status ≡ 6 → ForSome (command_of_words words.now) (λ command. PrintsFront command (R.left input.old) (W.written sink.old) (W.written sink.new)) }
 {
-    match command_of(words) {
-        Some(command) => carry_out(alloc, command, input, sink),
-        None => end_with(alloc, 2),
+    if command_of(words).is_none() {
+        return end_with(alloc, 2);
+    }
+    match read_command(alloc, words) {
+        Ok(Some(command)) => carry_out(alloc, command, input, sink),
+        Ok(None) => end_with(alloc, 2),
+        Err(_) => end_with(alloc, 6),
     }
 }

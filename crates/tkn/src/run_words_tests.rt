@@ -4,25 +4,25 @@ use crate::run_words::run_words;
 use crate::tests::words;
 use std::test::Fail;
 
-/// Words behind `run`, and the root and the number of asks where they are options of it.
+/// Words of `run`, and the root and the number of asks where they are options of it.
 const ROWS: [(&str, Option<(bool, &str, usize)>); 14] = [
-    ("--json", Some((true, "/tmp/tkn", 0))),
-    ("--root /a", Some((false, "/a", 0))),
-    ("--root=/a --json", Some((true, "/a", 0))),
-    ("--json --root /a --", Some((true, "/a", 0))),
-    ("r=Cancelled@10s", Some((false, "/tmp/tkn", 1))),
+    ("run --json", Some((true, "/tmp/tkn", 0))),
+    ("run --root /a", Some((false, "/a", 0))),
+    ("run --root=/a --json", Some((true, "/a", 0))),
+    ("run --json --root /a --", Some((true, "/a", 0))),
+    ("run r=Cancelled@10s", Some((false, "/tmp/tkn", 1))),
     (
-        "r=Start@0 --json q=StoppedRunFinally@1m -- t=TaskRunCancelled@5ms",
+        "run r=Start@0 --json q=StoppedRunFinally@1m -- t=TaskRunCancelled@5ms",
         Some((true, "/tmp/tkn", 3)),
     ),
-    ("--json --json", None),
-    ("--root", None),
-    ("--root=x", None),
-    ("--root /a --root=/b", None),
-    ("-j", None),
-    ("r=Stopped@1s", None),
-    ("r=Cancelled@soon", None),
-    ("=Cancelled@1s", None),
+    ("run --json --json", None),
+    ("run --root", None),
+    ("run --root=x", None),
+    ("run --root /a --root=/b", None),
+    ("run -j", None),
+    ("run r=Stopped@1s", None),
+    ("run r=Cancelled@soon", None),
+    ("run =Cancelled@1s", None),
 ];
 
 #[test]

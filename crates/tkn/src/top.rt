@@ -1,4 +1,4 @@
-ghost use Rattle.std.specs.Prelude.{◌≡◌, ◌==◌, ◌<◌, ◌⊎◌, ◌↔◌, if◌then◌else◌, true, false, [], None, Some, IfErr, IfOk, OnOk};
+ghost use Rattle.std.specs.Prelude.{◌≡◌, ◌==◌, ◌<◌, ◌⊎◌, ◌↔◌, if◌then◌else◌, true, false, [], None, Option, Some, IfErr, IfOk, OnOk};
 ghost use Rattle.std.specs.Option.{ForSome};
 ghost use Rattle.std.specs.Io.KnownBytes.{Appends};
 ghost use Rattle.tk_edge.specs.Causes.{raised};
@@ -6,6 +6,9 @@ ghost use Rattle.tk_journal.specs.Legal.{IsLegal};
 ghost use Rattle.tk_report.specs.Objects.{HasMoments};
 ghost use Rattle.tk_run.specs.Begun.{IsNewBench};
 ghost use Rattle.tkn.specs.Command.{command_of as command_of_words};
+ghost use Rattle.tkn.specs.Generate.{IsGenerated};
+ghost use Rattle.tkn.specs.GenerateWords.{generate_of};
+ghost use Rattle.tkn.specs.declared.generate_words.Generation.{Generation as Wanted};
 ghost use Rattle.tkn.specs.Plain.{is_answer, Prints, PrintsFront, PrintsReadFront};
 ghost use Rattle.tkn.specs.Run.{CountsRun, IsCutShort, IsDueOf, IsRunAnswer, IsRunDue, IsUsage, LeftBy, PrintsFrontOf, PrintsOne, RunsSoFar, RunsSoFarOf};
 ghost use Rattle.tkn.specs.RunWords.{run_of, run_options};
@@ -14,13 +17,14 @@ ghost use Rattle.tkn.specs.Written.{AppendsFront};
 
 use crate::answer::{Answer, refused, too_long_answer};
 use crate::due::{Due, reported};
+use crate::generate::generate_command;
 use crate::input::{Unread, read_all};
-use crate::output::write_all;
 use crate::plain::{Ended, end_with, plain};
+use crate::printing::print;
 use crate::run_words::{RunOptions, run_words};
 use std::alloc::{AllocError, Global};
 use std::sync::Wait;
-use tk_edge::{Clock, Gate, Host, Miss, Sink, Source};
+use tk_edge::{Clock, Gate, Host, Sink, Source};
 use tk_journal::Journal;
 use tk_rounds::Bench;
 use tk_run::{Ran, run};
@@ -35,26 +39,6 @@ fn due_of(alloc: Global, json: bool, ran: &Ran) -> Result<Due, AllocError>
     match &ran.end {
         Ok(()) => reported(alloc, json, &ran.journal),
         Err(error) => refused(alloc, error),
-    }
-}
-
-/// What is due is written, and the journal is answered.
-fn print<W: Sink>(sink: &mut W, due: Due, journal: Journal) -> Ended
-    requires answer { is_answer due.status ≡ true }
-    ensures journal { result.journal ≡ journal }
-    ensures known { (result.status ≡ due.status) ⊎ (result.status ≡ 5) ⊎ (result.status ≡ 6) }
-    ensures answer { is_answer result.status ≡ true → (result.status ≡ due.status) × Appends (W.written sink.old) (W.written sink.new) due.text }
-    ensures failed_front { result.status ≡ 5 → AppendsFront (W.written sink.old) (W.written sink.new) due.text }
-    ensures memory_front { result.status ≡ 6 → AppendsFront (W.written sink.old) (W.written sink.new) due.text }
-    ensures faults { W.faults sink.new ≡ (if result.status == 5 then raised (W.faults sink.old) else W.faults sink.old) }
-{
-    match write_all(sink, due.text.as_str().as_bytes()) {
-        Ok(()) => Ended {
-            status: due.status,
-            journal,
-        },
-        Err(Miss::Failed) => Ended { status: 5, journal },
-        Err(Miss::Memory) => Ended { status: 6, journal },
     }
 }
 
@@ -177,7 +161,8 @@ fn run_command<T: Wait, R: Source, W: Sink, K: Clock, H: Host, G: Gate>(
 
 /// Carries out the words after the program's name: `run` runs the steps of an input on a bench and prints the report of its
 /// runs, as text or with `--json` as JSON, with the folders of its pods and workspaces below `--root`, and asks what its other
-/// words say at their times; every other command is `plain`'s, and leaves the bench as it is. The statuses of `run` are those of
+/// words say at their times; `generate` prints the manifest of a number and a size, or with `--run` simulates it and prints what
+/// its journal comes to; every other command is `plain`'s. Those leave the bench as it is. The statuses of `run` are those of
 /// `simulate`; where memory runs out, all that still runs is killed, and the journal so far is answered.
 pub fn tkn<T: Wait, R: Source, W: Sink, K: Clock, H: Host, G: Gate>(
     rt: &T,
@@ -190,12 +175,12 @@ pub fn tkn<T: Wait, R: Source, W: Sink, K: Clock, H: Host, G: Gate>(
     requires bench { IsNewBench H.told bench.old }
     // the statuses are 0 to 7
     ensures known { result.status < 8 }
-    // words that are neither options of `run` nor another command: usage or want of memory, and nothing is read, written or run
-    ensures usage { IsUsage (run_of words.now) (command_of_words words.now) → ((result.status ≡ 2) ⊎ (result.status ≡ 6)) × (input.new ≡ input.old) × (sink.new ≡ sink.old) × (bench.new ≡ bench.old) × (result.journal.history ≡ []) }
+    // words that are neither those of `run` or `generate` nor another command: usage or want of memory, and nothing is read, written or run
+    ensures usage { IsUsage (run_of words.now) (generate_of words.now) (command_of_words words.now) → ((result.status ≡ 2) ⊎ (result.status ≡ 6)) × (input.new ≡ input.old) × (sink.new ≡ sink.old) × (bench.new ≡ bench.old) × (result.journal.history ≡ []) }
     // usage comes of nothing else
-    ensures usage_alone { result.status ≡ 2 → IsUsage (run_of words.now) (command_of_words words.now) }
+    ensures usage_alone { result.status ≡ 2 → IsUsage (run_of words.now) (generate_of words.now) (command_of_words words.now) }
     // words of another command than `run` that are usage come to nothing else
-    ensures words { run_of words.now ≡ None → ((result.status ≡ 2) ↔ (command_of_words words.now ≡ None)) }
+    ensures words { run_of words.now ≡ None → generate_of words.now ≡ None → ((result.status ≡ 2) ↔ (command_of_words words.now ≡ None)) }
     // a read fault comes only of the source: then nothing was written or run
     ensures input_faults { R.faults input.new ≡ (if result.status == 4 then raised (R.faults input.old) else R.faults input.old) }
     ensures input_failed { result.status ≡ 4 → (sink.new ≡ sink.old) × (bench.new ≡ bench.old) × (result.journal.history ≡ []) }
@@ -207,17 +192,25 @@ pub fn tkn<T: Wait, R: Source, W: Sink, K: Clock, H: Host, G: Gate>(
     ensures run_sink_failed { (options : Options) → run_of words.now ≡ Some (Some options) → result.status ≡ 5 → PrintsFrontOf (IsRunDue G.answers K.readings K.last H.told H.killed H.faults options (R.left input.old) (R.ended input.new) bench.old bench.new) (W.written sink.old) (W.written sink.new) result.journal.history }
     // for 6 too, or nothing was written, and the runs came so far and all that still ran was killed
     ensures run_memory { (options : Options) → run_of words.now ≡ Some (Some options) → result.status ≡ 6 → IsCutShort (sink.new ≡ sink.old) (RunsSoFarOf G.answers K.readings K.last H.told H.killed H.faults options (R.left input.old) bench.old bench.new result.journal.history) (PrintsFrontOf (IsRunDue G.answers K.readings K.last H.told H.killed H.faults options (R.left input.old) (R.ended input.new) bench.old bench.new) (W.written sink.old) (W.written sink.new) result.journal.history) }
+    // `generate` reads nothing, and only its words make it usage
+    ensures generate_words { (found : Option Wanted) → generate_of words.now ≡ Some found → (result.status ≡ 2 → found ≡ None) × (input.new ≡ input.old) }
+    // for 0 and 3 just what is due is printed, and the journal is the one that was counted
+    ensures generate_answer { (wanted : Wanted) → generate_of words.now ≡ Some (Some wanted) → is_answer result.status ≡ true → PrintsOne (IsGenerated wanted) (W.written sink.old) (W.written sink.new) result.status result.journal.history }
+    // for 5 a front of it, and for 6 too, or nothing
+    ensures generate_sink_failed { (wanted : Wanted) → generate_of words.now ≡ Some (Some wanted) → result.status ≡ 5 → PrintsFrontOf (IsGenerated wanted) (W.written sink.old) (W.written sink.new) result.journal.history }
+    ensures generate_memory { (wanted : Wanted) → generate_of words.now ≡ Some (Some wanted) → result.status ≡ 6 → ((sink.new ≡ sink.old) × (result.journal.history ≡ [])) ⊎ PrintsFrontOf (IsGenerated wanted) (W.written sink.old) (W.written sink.new) result.journal.history }
     // every other command is `plain`'s, clause by clause, and leaves the bench as it is
     ensures bench_alone { run_of words.now ≡ None → bench.new ≡ bench.old }
-    ensures nothing_ran { run_of words.now ≡ None → (result.status ≡ 2) ⊎ (result.status ≡ 4) ⊎ (result.status ≡ 6) → result.journal.history ≡ [] }
-    ensures answer { run_of words.now ≡ None → is_answer result.status ≡ true → ForSome (command_of_words words.now) (λ command. Prints command (R.left input.old) (R.ended input.new) (W.written sink.old) (W.written sink.new) result.status result.journal.history) }
-    ensures sink_failed_front { run_of words.now ≡ None → result.status ≡ 5 → ForSome (command_of_words words.now) (λ command. PrintsReadFront command (R.left input.old) (R.ended input.new) (W.written sink.old) (W.written sink.new) result.journal.history) }
-    ensures memory_front { run_of words.now ≡ None → result.status ≡ 6 → ForSome (command_of_words words.now) (λ command. PrintsFront command (R.left input.old) (W.written sink.old) (W.written sink.new)) }
+    ensures nothing_ran { run_of words.now ≡ None → generate_of words.now ≡ None → (result.status ≡ 2) ⊎ (result.status ≡ 4) ⊎ (result.status ≡ 6) → result.journal.history ≡ [] }
+    ensures answer { run_of words.now ≡ None → generate_of words.now ≡ None → is_answer result.status ≡ true → ForSome (command_of_words words.now) (λ command. Prints command (R.left input.old) (R.ended input.new) (W.written sink.old) (W.written sink.new) result.status result.journal.history) }
+    ensures sink_failed_front { run_of words.now ≡ None → generate_of words.now ≡ None → result.status ≡ 5 → ForSome (command_of_words words.now) (λ command. PrintsReadFront command (R.left input.old) (R.ended input.new) (W.written sink.old) (W.written sink.new) result.journal.history) }
+    ensures memory_front { run_of words.now ≡ None → generate_of words.now ≡ None → result.status ≡ 6 → ForSome (command_of_words words.now) (λ command. PrintsFront command (R.left input.old) (W.written sink.old) (W.written sink.new)) }
 {
     match words {
-        [word, rest @ ..] if word.as_str() == "run" => {
-            run_command(rt, alloc, rest, input, sink, bench)
+        [word, ..] if word.as_str() == "run" => {
+            run_command(rt, alloc, words, input, sink, bench)
         }
+        [word, ..] if word.as_str() == "generate" => generate_command(alloc, words, sink),
         _ => plain(alloc, words, input, sink),
     }
 }

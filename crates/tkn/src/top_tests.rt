@@ -3,6 +3,7 @@
 ghost use Rattle.std.specs.Prelude.{IfOk};
 ghost use Rattle.tk_run.specs.Begun.{IsNewBench, IsNewController, IsNewNode};
 
+use crate::generate::generate_command;
 use crate::tests::{bytes, words};
 use crate::top::tkn;
 use std::alloc::{AllocError, Global};
@@ -67,8 +68,15 @@ const SUCCEEDED: &str = "pipelinerun r True Succeeded\n  taskrun r-a a 0 Succeed
 const AS_JSON: &str =
     "[{\"childReferences\":[{\"attempts\":1,\"index\":0,\"name\":\"r-a\",\"outcome\":\"Succeeded\",\"task\":\"a\"}],\"kind\":\"PipelineRun\",\"name\":\"r\",\"reason\":\"Succeeded\",\"results\":[],\"skippedTasks\":[],\"startTime\":\"1970-01-01T00:00:00.000Z\",\"status\":\"True\"}]\n";
 
+/// What two generated tasks come to.
+const COUNTED: &str = "runs 1 true 1 false 0 taskruns 2 attempts 2 entries 17\n";
+
+/// What `generate 1 1` prints, but for its newline.
+const GENERATED: &str =
+    r#"{"apiVersion":"v1","items":[{"apiVersion":"tekton.dev/v1","kind":"PipelineRun","metadata":{"name":"gen"},"spec":{"pipelineSpec":{"tasks":[{"name":"t0","retries":0,"taskSpec":{"steps":[{"command":["true"]}]}}]}}}],"kind":"List"}"#;
+
 /// Words, an input, which read and which write fails, and the status and the text.
-const ROWS: [(&str, &str, Option<u64>, Option<u64>, u8, &str); 13] = [
+const ROWS: [(&str, &str, Option<u64>, Option<u64>, u8, &str); 25] = [
     ("run", ONE, None, None, 0, SUCCEEDED),
     ("run --json", ONE, None, None, 0, AS_JSON),
     (
@@ -96,7 +104,57 @@ const ROWS: [(&str, &str, Option<u64>, Option<u64>, u8, &str); 13] = [
     ("run", ONE, None, Some(0), 5, ""),
     ("check", ONE, None, None, 0, "ok 1\n"),
     ("simulate --json", ONE, None, None, 0, AS_JSON),
+    ("check", GENERATED, None, None, 0, "ok 1\n"),
+    ("generate 1 2 --run", "", Some(0), None, 0, COUNTED),
+    ("generate --run -- 1 2", "", None, None, 0, COUNTED),
+    ("generate --run 1 2", "", None, Some(0), 5, ""),
+    ("generate 0 0", "", None, None, 2, ""),
+    ("generate 1", "", None, None, 2, ""),
+    ("generate 1 2 3", "", None, None, 2, ""),
+    ("generate 01 2", "", None, None, 2, ""),
+    ("generate 2147483648 2", "", None, None, 2, ""),
+    ("generate 1 4001", "", None, None, 2, ""),
+    ("generate --run 1 --run 2", "", None, None, 2, ""),
+    ("generate -- --run 1 2", "", None, None, 2, ""),
 ];
+
+#[test]
+fn generated_text_is_a_line(rt: HostRuntime) -> Result<(), Fail> {
+    let alloc = rt.alloc();
+    let words = words(alloc, "generate 1 1")?;
+    let mut source = MemSource::new(bytes(alloc, "left")?, List::new(alloc));
+    let mut sink = MemSink::new(alloc, List::new(alloc));
+    let mut bench = bench(alloc)?;
+    let ended = tkn(
+        &rt,
+        alloc,
+        words.as_slice(),
+        &mut source,
+        &mut sink,
+        &mut bench,
+    );
+    assert_eq!(rt; ended.status, 0);
+    let mut line = Vec::from_slice(alloc, GENERATED.as_bytes())?;
+    line.push(b'\n')?;
+    assert_eq!(rt; sink.bytes(), line.as_slice());
+    Ok(())
+}
+
+/// Four thousand tasks, whose 4,926 combinations were counted by a program in Python.
+#[test]
+fn a_large_manifest_is_simulated(rt: HostRuntime) -> Result<(), Fail> {
+    let alloc = rt.alloc();
+    let words = words(alloc, "generate 1 4000 --run")?;
+    let mut sink = MemSink::new(alloc, List::new(alloc));
+    let ended = generate_command(alloc, words.as_slice(), &mut sink);
+    assert_eq!(rt; ended.status, 0);
+    assert_eq!(rt;
+        sink.bytes(),
+        "runs 1 true 1 false 0 taskruns 4926 attempts 4926 entries 33559\n".as_bytes()
+    );
+    assert_eq!(rt; ended.journal.len(), 33_559);
+    Ok(())
+}
 
 #[test]
 fn words_come_to_their_ends(rt: HostRuntime) -> Result<(), Fail> {
