@@ -92,7 +92,7 @@ fn said_of_bytes(alloc: Global, mut said: String, bytes: &[u8]) -> Result<String
 }
 
 /// Whether a value is an object of this kind.
-fn is_of_kind(value: &Value, kind: &str) -> bool {
+pub(crate) fn is_of_kind(value: &Value, kind: &str) -> bool {
     match value.get("kind").and_then(Value::as_str) {
         Some(name) => name == kind,
         None => false,

@@ -114,21 +114,34 @@ fn fault(alloc: Global, checked: Result<(), CheckError>) -> Result<String, Alloc
     }
 }
 
-/// A text, whether `[*]` may be the whole of it, and what is wrong with it.
-const CHECKED: [(&str, bool, &str); 4] = [
-    ("$(params.x[*])", true, "good"),
-    ("$(params.x[*])", false, "wrong $(params.x[*])"),
-    ("$(params.x)$(params.q)", true, "unknown $(params.q)"),
-    ("-$(params.x[*])", true, "bad 1"),
-];
+/// `whole` where `[*]` may be the whole of a text and else `part`, the text, and behind `=> ` what is wrong with it.
+const CHECKED: &str = "whole $(params.x[*]) => good
+part $(params.x[*]) => wrong $(params.x[*])
+whole $(params.x)$(params.q) => unknown $(params.q)
+whole -$(params.x[*]) => bad 1";
+
+/// What is wrong with a row's text.
+fn row_fault(alloc: Global, scope: &Scope, line: &str) -> Result<String, AllocError> {
+    let (word, text) = line.split_once(' ').unwrap_or(("", line));
+    let whole = match word {
+        "whole" => true,
+        "part" => false,
+        _ => return String::from_str(alloc, "no such word"),
+    };
+    fault(alloc, check_text(alloc, text, scope, whole))
+}
 
 #[test]
 fn checks_texts(rt: HostRuntime) -> Result<(), Fail> {
     let alloc = rt.alloc();
     let scope = scope(alloc)?;
-    for (text, whole, want) in CHECKED {
-        let found = fault(alloc, check_text(alloc, text, &scope, whole))?;
-        assert_eq!(rt; found.as_str(), want, "{text}");
+    for row in CHECKED.split('\n') {
+        let (line, wanted) = row.split_once(" => ").unwrap_or((row, "no answer"));
+        assert_eq!(rt;
+            row_fault(alloc, &scope, line)?.as_str(),
+            wanted,
+            "of {line}"
+        );
     }
     Ok(())
 }

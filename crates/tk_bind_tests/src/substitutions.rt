@@ -201,55 +201,43 @@ fn in_matrix(alloc: Global, words: &str, env: &Env) -> Result<String, ScanError>
     Ok(matrix_told(alloc, &made)?)
 }
 
-/// Where a text stands.
-#[derive(Clone, Copy)]
-enum Form {
-    Alone,
-    Value,
-    Element,
-    AtKey,
-    Matrix,
-}
-
-fn substituted(alloc: Global, form: Form, words: &str, env: &Env) -> Result<String, ScanError> {
+/// What a text gives where it stands.
+fn substituted(alloc: Global, form: &str, words: &str, env: &Env) -> Result<String, ScanError> {
     match form {
-        Form::Alone => alone(alloc, words, env),
-        Form::Value => as_value(alloc, words, env),
-        Form::Element => as_element(alloc, words, env),
-        Form::AtKey => at_key(alloc, words, env),
-        Form::Matrix => in_matrix(alloc, words, env),
+        "alone" => alone(alloc, words, env),
+        "value" => as_value(alloc, words, env),
+        "element" => as_element(alloc, words, env),
+        "key" => at_key(alloc, words, env),
+        "matrix" => in_matrix(alloc, words, env),
+        _ => Ok(String::from_str(alloc, "no form")?),
     }
 }
 
-/// A text, where it stands, and what it gives there.
-const TEXTS: [(&str, Form, &str); 12] = [
-    ("x$(params['t'])y", Form::Alone, "x1y"),
-    ("$(params.again)", Form::Alone, "$(params.t)"),
-    (
-        "$(tasks.a.results['r'])-$(tasks.status)",
-        Form::Alone,
-        "7-None",
-    ),
-    ("$(params.y)$(params.z)", Form::Alone, "no $(params.y)"),
-    ("$(params.x[*])", Form::Alone, "no $(params.x[*])"),
-    ("$(params.t)", Form::Value, "1"),
-    ("$(params.x[*])", Form::Value, "b|c|"),
-    ("$(params.x[*])", Form::Element, "b|c|"),
-    ("<$(params.t)>", Form::AtKey, "k=<1>|"),
-    ("$(params.x[*])", Form::AtKey, "no $(params.x[*])"),
-    ("$(params.x[*])", Form::Matrix, "b|c|b|c|"),
-    ("$(params.z)", Form::Matrix, "none"),
-];
+/// Where a text stands, the text, and behind `=> ` what it gives there.
+const TEXTS: &str = "alone x$(params['t'])y => x1y
+alone $(params.again) => $(params.t)
+alone $(tasks.a.results['r'])-$(tasks.status) => 7-None
+alone $(params.y)$(params.z) => no $(params.y)
+alone $(params.x[*]) => no $(params.x[*])
+value $(params.t) => 1
+value $(params.x[*]) => b|c|
+element $(params.x[*]) => b|c|
+key <$(params.t)> => k=<1>|
+key $(params.x[*]) => no $(params.x[*])
+matrix $(params.x[*]) => b|c|b|c|
+matrix $(params.z) => none";
 
 #[test]
 fn substitutes_texts(rt: HostRuntime) -> Result<(), Fail> {
     let alloc = rt.alloc();
     let env = env(alloc)?;
-    for (words, form, want) in TEXTS {
+    for row in TEXTS.split('\n') {
+        let (line, wanted) = row.split_once(" => ").unwrap_or((row, "no answer"));
+        let (form, words) = line.split_once(' ').unwrap_or(("", line));
         let Ok(found) = substituted(alloc, form, words, &env) else {
             panic!(rt; "{words} has no reading");
         };
-        assert_eq!(rt; found.as_str(), want, "{words}");
+        assert_eq!(rt; found.as_str(), wanted, "of {line}");
     }
     Ok(())
 }

@@ -8,6 +8,7 @@ ghost use Rattle.tk_fields.specs.Shape.{just_one as exactly_one, object_of, opti
 
 use serde_json::Value;
 use std::alloc::{AllocError, Global};
+use std::process::Abort;
 use std::test::Fail;
 use tk_fields::{
     AnyText, Below8, Below32, Each, EachMember, FieldTable, Location, NumberRule, NumberThat,
@@ -19,48 +20,30 @@ use tk_types::{List, Rejected, Text};
 /// The line of a refusal, and `read` where there is none.
 fn told<T: Drop>(alloc: Global, outcome: Result<T, Rejected>) -> Result<Text, AllocError> {
     match outcome {
-        Ok(_) => Text::from_str(alloc, "read"),
+        Ok(_) => Text::from_str(alloc, "read\n"),
         Err(Rejected::Fault(fault)) => fault.line(alloc),
-        Err(Rejected::Memory) => Text::from_str(alloc, "memory"),
+        Err(Rejected::Memory) => Text::from_str(alloc, "memory\n"),
     }
 }
+
+/// Objects whose keys a table names.
+const KEYS: &str = r#"keys: {} => read
+keys: {"value": null, "image": 1, "name": []} => read
+keys: {"valueFrom": 1} => rejected 7 Unsupported $.valueFrom
+keys: {"a": 1, "valueFrom": 1} => rejected 6 UnknownField $.a
+keys: {"z": 1, "valueFrom": 1} => rejected 7 Unsupported $.valueFrom
+keys: {"valueFrom": 1, "nam": 1, "names": 1} => rejected 6 UnknownField $.nam
+keys: [] => rejected 2 WrongShape $"#;
 
 #[test]
 fn the_first_bad_key_is_told(rt: HostRuntime) -> Result<(), Fail> {
-    let alloc = rt.alloc();
-    let table = field_table!(Used "name" "value", Ignored "image", Refused "valueFrom");
-    let rows = [
-        ("{}", "read"),
-        ("{'value': null, 'image': 1, 'name': []}", "read"),
-        ("{'valueFrom': 1}", "rejected 7 Unsupported $.valueFrom\n"),
-        ("{'a': 1, 'valueFrom': 1}", "rejected 6 UnknownField $.a\n"),
-        (
-            "{'z': 1, 'valueFrom': 1}",
-            "rejected 7 Unsupported $.valueFrom\n",
-        ),
-        (
-            "{'valueFrom': 1, 'nam': 1, 'names': 1}",
-            "rejected 6 UnknownField $.nam\n",
-        ),
-        ("[]", "rejected 2 WrongShape $\n"),
-    ];
-    for (text, line) in rows {
-        let value = json(alloc, text)?;
-        let outcome = check_object(alloc, &value, &table, &Location::root());
-        assert_eq!(rt; told(alloc, outcome)?.as_str(), line);
-    }
-    Ok(())
-}
-
-/// A JSON text with `'` for each quote.
-fn json(alloc: Global, text: &str) -> Result<Value, serde_json::Error> {
-    Value::from_str(alloc, text.replace(alloc, "'", "\"")?.as_str())
+    rows_hold(&rt, rt.alloc(), KEYS)
 }
 
 #[test]
 fn tables_have_any_number_of_rows(rt: HostRuntime) -> Result<(), Fail> {
     let alloc = rt.alloc();
-    let value = json(alloc, "{'l': 1}")?;
+    let value = Value::from_str(alloc, r#"{"l": 1}"#)?;
     let place = Location::root();
     let none: FieldTable<0> = field_table!();
     let one = field_table!(Used "l");
@@ -70,7 +53,7 @@ fn tables_have_any_number_of_rows(rt: HostRuntime) -> Result<(), Fail> {
     let told_one = told(alloc, check_object(alloc, &value, &one, &place))?;
     let told_twelve = told(alloc, check_object(alloc, &value, &twelve, &place))?;
     assert_eq!(rt; told_none.as_str(), "rejected 6 UnknownField $.l\n");
-    assert_eq!(rt; told_one.as_str(), "read");
+    assert_eq!(rt; told_one.as_str(), "read\n");
     assert_eq!(rt; told_twelve.as_str(), "rejected 7 Unsupported $.l\n");
     Ok(())
 }
@@ -128,10 +111,18 @@ impl Words for Operator {
     }
 }
 
-/// What a reader of one form tells of the field `f`.
+/// Whether an object has keys that a table names, and none that it refuses.
+fn check_keys(alloc: Global, value: &Value, place: &Location<'_>) -> Result<(), Rejected> {
+    let table = field_table!(Used "name" "value", Ignored "image", Refused "valueFrom");
+    check_object(alloc, value, &table, place)
+}
+
+/// What is told of the keys of a value, of a list of points, or else by a reader of one form of the field `f`.
 fn reading(alloc: Global, form: &str, value: &Value) -> Result<Text, AllocError> {
     let place = Location::root();
     match form {
+        "keys" => told(alloc, check_keys(alloc, value, &place)),
+        "points" => told(alloc, Each::<PointShape>::read(alloc, value, &place)),
         "text" => told(alloc, required::<AnyText>(alloc, value, &place, "f")),
         "rule" => told(
             alloc,
@@ -153,63 +144,65 @@ fn reading(alloc: Global, form: &str, value: &Value) -> Result<Text, AllocError>
             alloc,
             required::<SomeOf<AnyText>>(alloc, value, &place, "f"),
         ),
-        _ => told(
+        "members" => told(
             alloc,
             or_empty::<EachMember<TextEntry>>(alloc, value, &place, "f"),
         ),
+        _ => Text::from_str(alloc, "no form\n"),
     }
 }
 
-#[test]
-fn each_form_is_read_or_refused(rt: HostRuntime) -> Result<(), Fail> {
-    let alloc = rt.alloc();
-    let rows = [
-        ("text", "{'f': ''}", "read"),
-        ("text", "{'f': null}", "rejected 2 WrongShape $.f\n"),
-        ("text", "{}", "rejected 5 MissingField $.f\n"),
-        ("rule", "{}", "read"),
-        ("rule", "{'f': null}", "rejected 2 WrongShape $.f\n"),
-        ("rule", "{'f': ''}", "rejected 8 BadName $.f\n"),
-        ("word", "{'f': 'notin'}", "read"),
-        ("word", "{'f': 'x', 'f': 'in'}", "read"),
-        ("word", "{'f': 'In'}", "rejected 11 BadChoice $.f\n"),
-        ("truth", "{'f': true}", "read"),
-        ("truth", "{'f': 'true'}", "rejected 2 WrongShape $.f\n"),
-        ("below 8", "{'f': 255}", "read"),
-        ("below 8", "{'f': 256}", "rejected 2 WrongShape $.f\n"),
-        ("below 32", "{'f': 4294967295}", "read"),
-        (
-            "below 32",
-            "{'f': 4294967296}",
-            "rejected 2 WrongShape $.f\n",
-        ),
-        ("below 32", "{'f': 1.0}", "rejected 2 WrongShape $.f\n"),
-        ("below 32", "{'f': -0}", "rejected 2 WrongShape $.f\n"),
-        ("number", "{'f': 8}", "read"),
-        ("number", "{'f': 9}", "rejected 11 BadChoice $.f\n"),
-        ("number", "{'f': -1}", "rejected 2 WrongShape $.f\n"),
-        ("each", "{'f': []}", "read"),
-        (
-            "each",
-            "{'f': ['a', 'b', 1, 2]}",
-            "rejected 2 WrongShape $.f[2]\n",
-        ),
-        ("each", "{'f': {}}", "rejected 2 WrongShape $.f\n"),
-        ("some", "{'f': ['a']}", "read"),
-        ("some", "{'f': []}", "rejected 5 MissingField $.f\n"),
-        ("members", "{'f': {'a': 'x', '': 'y'}}", "read"),
-        (
-            "members",
-            "{'f': {'a': 'x', 'b c': 1}}",
-            "rejected 2 WrongShape $.f.\"b c\"\n",
-        ),
-        ("members", "{'f': []}", "rejected 2 WrongShape $.f\n"),
-    ];
-    for (form, text, line) in rows {
-        let value = json(alloc, text)?;
-        assert_eq!(rt; reading(alloc, form, &value)?.as_str(), line);
+/// What is told of a text of JSON by its form.
+fn told_of(alloc: Global, form: &str, text: &str) -> Result<Text, serde_json::Error> {
+    let value = Value::from_str(alloc, text)?;
+    Ok(reading(alloc, form, &value)?)
+}
+
+/// Whether each row of a table is told as it says: a form, a text of JSON, and behind `=> ` the line without its line feed.
+fn rows_hold(rt: &impl Abort, alloc: Global, table: &str) -> Result<(), Fail> {
+    for row in table.split('\n') {
+        let (given, wanted) = row.split_once(" => ").unwrap_or((row, "no answer"));
+        let (form, text) = given.split_once(": ").unwrap_or(("no form", given));
+        let told = told_of(alloc, form, text)?;
+        let line = told.as_str().strip_suffix('\n').unwrap_or("no line");
+        assert_eq!(rt; line, wanted, "of {given}");
     }
     Ok(())
+}
+
+/// Each form of the field `f`.
+const FORMS: &str = r#"text: {"f": ""} => read
+text: {"f": null} => rejected 2 WrongShape $.f
+text: {} => rejected 5 MissingField $.f
+rule: {} => read
+rule: {"f": null} => rejected 2 WrongShape $.f
+rule: {"f": ""} => rejected 8 BadName $.f
+word: {"f": "notin"} => read
+word: {"f": "x", "f": "in"} => read
+word: {"f": "In"} => rejected 11 BadChoice $.f
+truth: {"f": true} => read
+truth: {"f": "true"} => rejected 2 WrongShape $.f
+below 8: {"f": 255} => read
+below 8: {"f": 256} => rejected 2 WrongShape $.f
+below 32: {"f": 4294967295} => read
+below 32: {"f": 4294967296} => rejected 2 WrongShape $.f
+below 32: {"f": 1.0} => rejected 2 WrongShape $.f
+below 32: {"f": -0} => rejected 2 WrongShape $.f
+number: {"f": 8} => read
+number: {"f": 9} => rejected 11 BadChoice $.f
+number: {"f": -1} => rejected 2 WrongShape $.f
+each: {"f": []} => read
+each: {"f": ["a", "b", 1, 2]} => rejected 2 WrongShape $.f[2]
+each: {"f": {}} => rejected 2 WrongShape $.f
+some: {"f": ["a"]} => read
+some: {"f": []} => rejected 5 MissingField $.f
+members: {"f": {"a": "x", "": "y"}} => read
+members: {"f": {"a": "x", "b c": 1}} => rejected 2 WrongShape $.f."b c"
+members: {"f": []} => rejected 2 WrongShape $.f"#;
+
+#[test]
+fn each_form_is_read_or_refused(rt: HostRuntime) -> Result<(), Fail> {
+    rows_hold(&rt, rt.alloc(), FORMS)
 }
 
 /// A point, by its name or its number.
@@ -246,53 +239,23 @@ impl Reader for PointShape {
     }
 }
 
+/// Lists of points.
+const POINTS: &str = r#"points: [{"name": "a", "note": 1}, {"name": "b", "near": ["a"]}] => read
+points: [{"name": "a", "note": 1}, "b"] => rejected 2 WrongShape $[1]
+points: [{"name": 1, "near": 1, "zoom": 1}] => rejected 6 UnknownField $[0].zoom
+points: [{"name": 1, "near": 1}] => rejected 2 WrongShape $[0].name
+points: [{"name": "a"}, {"near": 1}] => rejected 5 MissingField $[0].note
+points: [{"name": "a", "near": [], "note": 1}] => rejected 11 BadChoice $[0].note"#;
+
 #[test]
 fn shapes_are_read_in_order(rt: HostRuntime) -> Result<(), Fail> {
-    let alloc = rt.alloc();
-    let rows = [
-        (
-            "[{'name': 'a', 'note': 1}, {'name': 'b', 'near': ['a']}]",
-            "read",
-        ),
-        (
-            "[{'name': 'a', 'note': 1}, 'b']",
-            "rejected 2 WrongShape $[1]
-",
-        ),
-        (
-            "[{'name': 1, 'near': 1, 'zoom': 1}]",
-            "rejected 6 UnknownField $[0].zoom
-",
-        ),
-        (
-            "[{'name': 1, 'near': 1}]",
-            "rejected 2 WrongShape $[0].name
-",
-        ),
-        (
-            "[{'name': 'a'}, {'near': 1}]",
-            "rejected 5 MissingField $[0].note
-",
-        ),
-        (
-            "[{'name': 'a', 'near': [], 'note': 1}]",
-            "rejected 11 BadChoice $[0].note
-",
-        ),
-    ];
-    for (text, line) in rows {
-        let value = json(alloc, text)?;
-        let place = Location::root();
-        let outcome = Each::<PointShape>::read(alloc, &value, &place);
-        assert_eq!(rt; told(alloc, outcome)?.as_str(), line);
-    }
-    Ok(())
+    rows_hold(&rt, rt.alloc(), POINTS)
 }
 
 #[test]
 fn values_are_what_stands(rt: HostRuntime) -> Result<(), Fail> {
     let alloc = rt.alloc();
-    let value = json(alloc, "{'name': 'a', 'near': ['b', 'c']}")?;
+    let value = Value::from_str(alloc, r#"{"name": "a", "near": ["b", "c"]}"#)?;
     let place = Location::root();
     let Ok(point) = PointShape::read(alloc, &value, &place) else {
         return Err(Fail::new("refused"));

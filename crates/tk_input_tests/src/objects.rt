@@ -1,9 +1,11 @@
-//! What is told of an input, for the tests in this folder.
+//! What is told of an input, and the rows of it, for the tests in this folder.
 
 mod input;
 mod shapes;
 
 use std::alloc::{AllocError, Global};
+use std::process::Abort;
+use std::test::Fail;
 use tk_manifest::{KindSet, read_objects};
 use tk_types::{Item, List, Rejected, Text};
 
@@ -16,59 +18,45 @@ pub fn told(alloc: Global, outcome: Result<List<Item>, Rejected>) -> Result<Text
     }
 }
 
-/// What is told of a text with `'` for each quote.
+/// What is told of a text.
 pub fn reading(alloc: Global, kinds: KindSet, text: &str) -> Result<Text, AllocError> {
-    let text = text.replace(alloc, "'", "\"")?;
     told(alloc, read_objects(alloc, text.as_bytes(), kinds))
 }
 
-/// What is told of an object of a kind with a spec.
-pub fn reading_spec(alloc: Global, kind: &str, spec: &str) -> Result<Text, AllocError> {
+/// Whether each row of a table is told as it says, where its value stands at `@` of a text: the value, and behind `=> `
+/// the line without its line feed.
+pub fn texts_hold(
+    rt: &impl Abort,
+    alloc: Global,
+    kinds: KindSet,
+    text: &str,
+    table: &str,
+) -> Result<(), Fail> {
+    for row in table.split('\n') {
+        let (value, wanted) = row.split_once(" => ").unwrap_or((row, "no answer"));
+        let whole = text.replace(alloc, "@", value)?;
+        let told = reading(alloc, kinds, whole.as_str())?;
+        let line = told.as_str().strip_suffix('\n').unwrap_or("no line");
+        assert_eq!(rt; line, wanted, "of {value}");
+    }
+    Ok(())
+}
+
+/// Whether each row of a table is told as it says, where its value stands at `@` of the spec of an object of a kind.
+pub fn specs_hold(
+    rt: &impl Abort,
+    alloc: Global,
+    kind: &str,
+    spec: &str,
+    table: &str,
+) -> Result<(), Fail> {
     let (kinds, version) = match kind {
         "Outcomes" => (KindSet::WithOutcomes, "tkn.local/v1"),
         "Scenario" => (KindSet::WithScenario, "tkn.local/v1"),
         _ => (KindSet::Four, "tekton.dev/v1"),
     };
     let text = format!(in alloc;
-        "{{'apiVersion': '{version}', 'kind': '{kind}', 'metadata': {{'name': 'a'}}, 'spec': {spec}}}"
+        r#"{{"apiVersion": "{version}", "kind": "{kind}", "metadata": {{"name": "a"}}, "spec": {spec}}}"#
     )?;
-    reading(alloc, kinds, text.as_str())
-}
-
-/// What is told of a step, a pipeline task and the like, at its place in the spec of a Task or of a Pipeline.
-pub fn reading_in(alloc: Global, shape: &str, value: &str) -> Result<Text, AllocError> {
-    match shape {
-        "step" => reading_spec(
-            alloc,
-            "Task",
-            format!(in alloc; "{{'steps': [{value}]}}")?.as_str(),
-        ),
-        "declared" => reading_spec(
-            alloc,
-            "Task",
-            format!(in alloc; "{{'params': [{value}], 'steps': [{{'script': ''}}]}}")?.as_str(),
-        ),
-        "task" => reading_spec(
-            alloc,
-            "Pipeline",
-            format!(in alloc; "{{'tasks': [{value}]}}")?.as_str(),
-        ),
-        "inner" => reading_spec(
-            alloc,
-            "Pipeline",
-            format!(in alloc;
-                "{{'tasks': [{{'name': 'a', 'taskRef': {{'name': 't'}}, {value}}}]}}"
-            )?.as_str(),
-        ),
-        "given" => reading_spec(
-            alloc,
-            "TaskRun",
-            format!(in alloc; "{{'taskRef': {{'name': 't'}}, 'params': [{value}]}}")?.as_str(),
-        ),
-        _ => reading_spec(
-            alloc,
-            "TaskRun",
-            format!(in alloc; "{{'taskRef': {{'name': 't'}}, 'workspaces': [{value}]}}")?.as_str(),
-        ),
-    }
+    texts_hold(rt, alloc, kinds, text.as_str(), table)
 }

@@ -2,150 +2,112 @@
 
 use serde_json::Value;
 use std::alloc::{AllocError, Global};
+use std::process::Abort;
 use std::test::Fail;
 use tk_fields::Location;
 use tk_scenario::read_scenario;
 use tk_types::{Event, Rejected, Scenario, Text};
 
-/// A JSON text with `'` for each quote.
-fn json(alloc: Global, text: &str) -> Result<Value, serde_json::Error> {
-    Value::from_str(alloc, text.replace(alloc, "'", "\"")?.as_str())
-}
-
 /// The line of a refusal, and `read` where there is none.
 fn told(alloc: Global, outcome: Result<Scenario, Rejected>) -> Result<Text, AllocError> {
     match outcome {
-        Ok(_) => Text::from_str(alloc, "read"),
+        Ok(_) => Text::from_str(alloc, "read\n"),
         Err(Rejected::Fault(fault)) => fault.line(alloc),
-        Err(Rejected::Memory) => Text::from_str(alloc, "memory"),
+        Err(Rejected::Memory) => Text::from_str(alloc, "memory\n"),
     }
 }
 
 /// What is told of a spec.
 fn reading(alloc: Global, text: &str) -> Result<Text, serde_json::Error> {
-    let spec = json(alloc, text)?;
+    let spec = Value::from_str(alloc, text)?;
     let outcome = read_scenario(alloc, &spec, &Location::root());
     Ok(told(alloc, outcome)?)
 }
 
-#[test]
-fn events_are_read_or_refused(rt: HostRuntime) -> Result<(), Fail> {
-    let alloc = rt.alloc();
-    let good = [
-        "deliver controller 0 runs 18446744073709551615",
-        "deliver kubelet 1 all",
-        "relist kubelet 0 pods 0",
-        "turn tasks 2",
-        "turn kubelet 1",
-        "restart controller 2",
-        "ask a.b-0 StoppedRunFinally",
-        "clock 253402300799999",
-        "round",
-    ];
-    let bad = [
-        "",
-        "rounds",
-        " round",
-        "deliver controller 0 runs 18446744073709551616",
-        "deliver controller 0 runs 01",
-        "deliver controller 0 runs +1",
-        "deliver controller 0 runs -1",
-        "deliver controller 0 runs ",
-        "deliver controller  0 runs 1",
-        "deliver controller 0 tasks 1",
-        "deliver runs 0 runs 1",
-        "deliver controller 3 all",
-        "deliver kubelet 2 all",
-        "deliver kubelet 1 every",
-        "relist kubelet 0 pods",
-        "relist kubelet 0 all",
-        "turn controller 0",
-        "turn kubelet 2",
-        "turn runs 00",
-        "restart runs 0",
-        "restart kubelet 0 0",
-        "ask A Cancelled",
-        "ask a cancelled",
-        "clock 253402300800000",
-        "clock 5s",
-    ];
-    for event in good {
-        let text = format!(in alloc; "{{'controllers': 3, 'kubelets': 2, 'events': ['{event}']}}")?;
-        assert_eq!(rt; reading(alloc, text.as_str())?.as_str(), "read", "{event}");
-    }
-    for event in bad {
-        let text = format!(in alloc; "{{'controllers': 3, 'kubelets': 2, 'events': ['{event}']}}")?;
-        let line = "rejected 11 BadChoice $.events[0]\n";
-        assert_eq!(rt; reading(alloc, text.as_str())?.as_str(), line, "{event}");
+/// Whether each row of a table is told as it says, where its value stands at `@` of a spec: the value, and behind `=> `
+/// the line without its line feed.
+fn rows_hold(rt: &impl Abort, alloc: Global, spec: &str, table: &str) -> Result<(), Fail> {
+    for row in table.split('\n') {
+        let (value, wanted) = row.split_once(" => ").unwrap_or((row, "no answer"));
+        let text = spec.replace(alloc, "@", value)?;
+        let told = reading(alloc, text.as_str())?;
+        let line = told.as_str().strip_suffix('\n').unwrap_or("no line");
+        assert_eq!(rt; line, wanted, "of {value}");
     }
     Ok(())
 }
 
+/// Each form of event, good and bad, the first bad one empty.
+const EVENTS: &str = r#"deliver controller 0 runs 18446744073709551615 => read
+deliver kubelet 1 all => read
+relist kubelet 0 pods 0 => read
+turn tasks 2 => read
+turn kubelet 1 => read
+restart controller 2 => read
+ask a.b-0 StoppedRunFinally => read
+clock 253402300799999 => read
+round => read
+ => rejected 11 BadChoice $.events[0]
+rounds => rejected 11 BadChoice $.events[0]
+ round => rejected 11 BadChoice $.events[0]
+deliver controller 0 runs 18446744073709551616 => rejected 11 BadChoice $.events[0]
+deliver controller 0 runs 01 => rejected 11 BadChoice $.events[0]
+deliver controller 0 runs +1 => rejected 11 BadChoice $.events[0]
+deliver controller 0 runs -1 => rejected 11 BadChoice $.events[0]
+deliver controller 0 runs  => rejected 11 BadChoice $.events[0]
+deliver controller  0 runs 1 => rejected 11 BadChoice $.events[0]
+deliver controller 0 tasks 1 => rejected 11 BadChoice $.events[0]
+deliver runs 0 runs 1 => rejected 11 BadChoice $.events[0]
+deliver controller 3 all => rejected 11 BadChoice $.events[0]
+deliver kubelet 2 all => rejected 11 BadChoice $.events[0]
+deliver kubelet 1 every => rejected 11 BadChoice $.events[0]
+relist kubelet 0 pods => rejected 11 BadChoice $.events[0]
+relist kubelet 0 all => rejected 11 BadChoice $.events[0]
+turn controller 0 => rejected 11 BadChoice $.events[0]
+turn kubelet 2 => rejected 11 BadChoice $.events[0]
+turn runs 00 => rejected 11 BadChoice $.events[0]
+restart runs 0 => rejected 11 BadChoice $.events[0]
+restart kubelet 0 0 => rejected 11 BadChoice $.events[0]
+ask A Cancelled => rejected 11 BadChoice $.events[0]
+ask a cancelled => rejected 11 BadChoice $.events[0]
+clock 253402300800000 => rejected 11 BadChoice $.events[0]
+clock 5s => rejected 11 BadChoice $.events[0]"#;
+
+#[test]
+fn events_are_read_or_refused(rt: HostRuntime) -> Result<(), Fail> {
+    rows_hold(
+        &rt,
+        rt.alloc(),
+        r#"{"controllers": 3, "kubelets": 2, "events": ["@"]}"#,
+        EVENTS,
+    )
+}
+
+/// Specs of scenarios, and the first fault of those that have one.
+const SPECS: &str = r#"{} => read
+[] => rejected 2 WrongShape $
+{"Events": []} => rejected 6 UnknownField $.Events
+{"controllers": 8, "kubelets": 1} => read
+{"controllers": 0} => rejected 11 BadChoice $.controllers
+{"kubelets": 9} => rejected 11 BadChoice $.kubelets
+{"kubelets": 1.0} => rejected 2 WrongShape $.kubelets
+{"kubelets": null} => rejected 2 WrongShape $.kubelets
+{"events": ["turn runs 1"]} => rejected 11 BadChoice $.events[0]
+{"events": ["clock 5", "clock 5", "round"]} => read
+{"events": ["clock 5", "round", "clock 4"]} => rejected 11 BadChoice $.events[2]
+{"events": ["round", 1, ""]} => rejected 2 WrongShape $.events[1]
+{"events": {}, "outcomes": null} => rejected 2 WrongShape $.outcomes
+{"outcomes": [{"taskRun": "", "attempt": 0, "exits": [0, 255], "results": {"": "x"}}]} => read
+{"outcomes": [{"taskRun": "a"}]} => rejected 5 MissingField $.outcomes[0].attempt
+{"outcomes": [{"taskRun": "a", "attempt": 4294967296}]} => rejected 2 WrongShape $.outcomes[0].attempt
+{"outcomes": [{"taskRun": "a", "attempt": 1, "exits": [256]}]} => rejected 2 WrongShape $.outcomes[0].exits[0]
+{"outcomes": [{"taskRun": "a", "attempt": 1, "results": {"r": 1}}]} => rejected 2 WrongShape $.outcomes[0].results.r
+{"outcomes": [{"taskRun": "a", "attempt": 1}, {"taskRun": "a", "attempt": 2}, {"taskRun": "b", "attempt": 1}]} => read
+{"outcomes": [{"taskRun": "a", "attempt": 1}, {"taskRun": "b", "attempt": 1}, {"taskRun": "a", "attempt": 1}, 1]} => rejected 11 BadChoice $.outcomes[2]"#;
+
 #[test]
 fn the_first_fault_is_told(rt: HostRuntime) -> Result<(), Fail> {
-    let alloc = rt.alloc();
-    let rows = [
-        ("{}", "read"),
-        ("[]", "rejected 2 WrongShape $\n"),
-        ("{'Events': []}", "rejected 6 UnknownField $.Events\n"),
-        ("{'controllers': 8, 'kubelets': 1}", "read"),
-        (
-            "{'controllers': 0}",
-            "rejected 11 BadChoice $.controllers\n",
-        ),
-        ("{'kubelets': 9}", "rejected 11 BadChoice $.kubelets\n"),
-        ("{'kubelets': 1.0}", "rejected 2 WrongShape $.kubelets\n"),
-        ("{'kubelets': null}", "rejected 2 WrongShape $.kubelets\n"),
-        (
-            "{'events': ['turn runs 1']}",
-            "rejected 11 BadChoice $.events[0]\n",
-        ),
-        ("{'events': ['clock 5', 'clock 5', 'round']}", "read"),
-        (
-            "{'events': ['clock 5', 'round', 'clock 4']}",
-            "rejected 11 BadChoice $.events[2]\n",
-        ),
-        (
-            "{'events': ['round', 1, '']}",
-            "rejected 2 WrongShape $.events[1]\n",
-        ),
-        (
-            "{'events': {}, 'outcomes': null}",
-            "rejected 2 WrongShape $.outcomes\n",
-        ),
-        (
-            "{'outcomes': [{'taskRun': '', 'attempt': 0, 'exits': [0, 255], 'results': {'': 'x'}}]}",
-            "read",
-        ),
-        (
-            "{'outcomes': [{'taskRun': 'a'}]}",
-            "rejected 5 MissingField $.outcomes[0].attempt\n",
-        ),
-        (
-            "{'outcomes': [{'taskRun': 'a', 'attempt': 4294967296}]}",
-            "rejected 2 WrongShape $.outcomes[0].attempt\n",
-        ),
-        (
-            "{'outcomes': [{'taskRun': 'a', 'attempt': 1, 'exits': [256]}]}",
-            "rejected 2 WrongShape $.outcomes[0].exits[0]\n",
-        ),
-        (
-            "{'outcomes': [{'taskRun': 'a', 'attempt': 1, 'results': {'r': 1}}]}",
-            "rejected 2 WrongShape $.outcomes[0].results.r\n",
-        ),
-        (
-            "{'outcomes': [{'taskRun': 'a', 'attempt': 1}, {'taskRun': 'a', 'attempt': 2}, {'taskRun': 'b', 'attempt': 1}]}",
-            "read",
-        ),
-        (
-            "{'outcomes': [{'taskRun': 'a', 'attempt': 1}, {'taskRun': 'b', 'attempt': 1}, {'taskRun': 'a', 'attempt': 1}, 1]}",
-            "rejected 11 BadChoice $.outcomes[2]\n",
-        ),
-    ];
-    for (text, line) in rows {
-        assert_eq!(rt; reading(alloc, text)?.as_str(), line, "{text}");
-    }
-    Ok(())
+    rows_hold(&rt, rt.alloc(), "@", SPECS)
 }
 
 /// An event as its variant with what it says.
@@ -171,11 +133,11 @@ fn shown(alloc: Global, event: &Event) -> Result<String, AllocError> {
 #[test]
 fn a_scenario_says_what_stands(rt: HostRuntime) -> Result<(), Fail> {
     let alloc = rt.alloc();
-    let spec = json(
+    let spec = Value::from_str(
         alloc,
-        "{'kubelets': 2, 'outcomes': [{'taskRun': 'a', 'attempt': 7, 'exits': [0, 3]}],
-          'events': ['deliver kubelet 1 taskruns 12', 'deliver controller 0 all', 'relist controller 0 pods 3',
-          'turn tasks 0', 'restart kubelet 0', 'ask r TaskRunCancelled', 'clock 9', 'round']}",
+        r#"{"kubelets": 2, "outcomes": [{"taskRun": "a", "attempt": 7, "exits": [0, 3]}],
+          "events": ["deliver kubelet 1 taskruns 12", "deliver controller 0 all", "relist controller 0 pods 3",
+          "turn tasks 0", "restart kubelet 0", "ask r TaskRunCancelled", "clock 9", "round"]}"#,
     )?;
     let Ok(scenario) = read_scenario(alloc, &spec, &Location::root()) else {
         return Err(Fail::new("refused"));

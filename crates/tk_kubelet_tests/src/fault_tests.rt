@@ -1,39 +1,57 @@
-use crate::bench::{Look, told_of};
+//! What a fault of the host comes to.
+
+use crate::bench::told_of;
 use crate::given::Given;
+use crate::rows::rows_hold;
+use crate::words::looks;
 use std::test::Fail;
-
-const MAKE: Look = Look::Make;
-
-const ROUND: Look = Look::Round;
 
 const WIDE: Given = Given::Wide { keep: false };
 
+/// A fault at each call for a pod of one step: its folder is cleared, its start file is put, its step is armed, and that is
+/// watched; and one where no entry is tried.
+const ROWS: &str = "The first call fails.
+plain fails 0: make, make, round, round, round, round
+=> wrote:4 wrote:5 idle idle claimed:1 Failed
+
+The second call fails.
+plain fails 1: make, make, round, round, round, round
+=> wrote:4 wrote:5 idle idle claimed:1 Failed
+
+The third call fails.
+plain fails 2: make, make, round, round, round, round
+=> wrote:4 wrote:5 idle idle claimed:1 Failed
+
+The fourth call fails.
+plain fails 3: make, make, round, round, round, round
+=> wrote:4 wrote:5 idle idle claimed:1 Failed
+
+The fifth call fails.
+plain fails 4: make, make, round, round, round, round
+=> wrote:4 acted wrote:5 idle claimed:1 Failed
+
+There is no further call.
+plain fails 5: make, make, round, round, round, round
+=> wrote:4 acted wrote:5 idle claimed:1 0 Succeeded
+
+A fault is told where no entry is tried.
+plain fails 0: make, make, round, forget, turn, turn, round, round
+=> wrote:4 fault idle wrote:5 idle claimed:1 Failed";
+
 #[test]
 fn a_fault_ends_the_pod_of_one_step(rt: HostRuntime) -> Result<(), Fail> {
-    let alloc = rt.alloc();
-    let looks = [MAKE, MAKE, ROUND, ROUND, ROUND, ROUND];
-    for (call, text) in [
-        // Its folder is cleared, its start file is put, its step is armed, and that is watched.
-        (0, "wrote:4 wrote:5 idle idle claimed:1 Failed"),
-        (1, "wrote:4 wrote:5 idle idle claimed:1 Failed"),
-        (2, "wrote:4 wrote:5 idle idle claimed:1 Failed"),
-        (3, "wrote:4 wrote:5 idle idle claimed:1 Failed"),
-        (4, "wrote:4 acted wrote:5 idle claimed:1 Failed"),
-        // There is no further call.
-        (5, "wrote:4 acted wrote:5 idle claimed:1 0 Succeeded"),
-    ] {
-        let told = told_of(alloc, Given::Plain, &[], &[], &[call], &looks)?;
-        assert_eq!(rt; told.text.as_str(), text, "call {call}");
-    }
-    Ok(())
+    rows_hold(&rt, rt.alloc(), ROWS)
 }
 
 #[test]
 fn each_fault_ends_its_pod_without_an_exit(rt: HostRuntime) -> Result<(), Fail> {
     let alloc = rt.alloc();
-    let looks = [MAKE, MAKE, ROUND, ROUND, ROUND, ROUND, ROUND, ROUND];
+    let looks = looks(
+        alloc,
+        "make, make, round, round, round, round, round, round",
+    )?;
     for call in 0..40 {
-        let told = told_of(alloc, WIDE, &[], &[], &[call], &looks)?;
+        let told = told_of(alloc, WIDE, &[], &[], &[call], looks.as_slice())?;
         // There are more calls than steps to arm, watches and results.
         assert!(rt; call > 17 || told.faults == 1, "call {call}");
         assert_eq!(rt; told.failed, told.faults, "call {call}");
@@ -49,12 +67,13 @@ fn each_fault_ends_its_pod_without_an_exit(rt: HostRuntime) -> Result<(), Fail> 
 #[test]
 fn a_fault_leaves_the_other_pod(rt: HostRuntime) -> Result<(), Fail> {
     let alloc = rt.alloc();
-    let looks = [
-        MAKE, MAKE, MAKE, MAKE, ROUND, ROUND, ROUND, ROUND, ROUND, ROUND, ROUND, ROUND,
-    ];
+    let looks = looks(
+        alloc,
+        "make, make, make, make, round, round, round, round, round, round, round, round",
+    )?;
     for call in 0..40 {
         let given = Given::Both { keep: false };
-        let told = told_of(alloc, given, &[], &[], &[call], &looks)?;
+        let told = told_of(alloc, given, &[], &[], &[call], looks.as_slice())?;
         assert_eq!(rt; told.failed, told.faults, "call {call}");
         assert_eq!(rt;
             told.failed.saturating_add(told.succeeded),
@@ -66,32 +85,12 @@ fn a_fault_leaves_the_other_pod(rt: HostRuntime) -> Result<(), Fail> {
 }
 
 #[test]
-fn a_fault_is_told_where_no_entry_is_tried(rt: HostRuntime) -> Result<(), Fail> {
-    let alloc = rt.alloc();
-    let forget = Look::Forget;
-    let looks = [
-        MAKE,
-        MAKE,
-        ROUND,
-        forget,
-        Look::Turn,
-        Look::Turn,
-        ROUND,
-        ROUND,
-    ];
-    let told = told_of(alloc, Given::Plain, &[], &[], &[0], &looks)?;
-    let text = "wrote:4 fault idle wrote:5 idle claimed:1 Failed";
-    assert_eq!(rt; told.text.as_str(), text);
-    Ok(())
-}
-
-#[test]
 fn a_failed_kill_changes_no_outcome(rt: HostRuntime) -> Result<(), Fail> {
     let alloc = rt.alloc();
-    let looks = [MAKE, MAKE, ROUND, ROUND, Look::Cancel("w"), ROUND, ROUND];
+    let looks = looks(alloc, "make, make, round, round, cancel w, round, round")?;
     let mut kills = 0u64;
     for call in 0..40 {
-        let told = told_of(alloc, WIDE, &[], &[], &[call], &looks)?;
+        let told = told_of(alloc, WIDE, &[], &[], &[call], looks.as_slice())?;
         let is_cancelled = told.text.as_str() == "wrote:4 acted wrote:6 idle claimed:1 Cancelled";
         assert_eq!(rt; is_cancelled, told.failed == 0, "call {call}");
         kills = kills.saturating_add(told.faults.saturating_sub(told.failed));

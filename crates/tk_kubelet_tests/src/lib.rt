@@ -10,8 +10,12 @@ mod given;
 #[cfg(test)]
 mod result_tests;
 #[cfg(test)]
+mod rows;
+#[cfg(test)]
 mod scripts;
 #[cfg(test)]
 mod telling;
 #[cfg(test)]
 mod turn_tests;
+#[cfg(test)]
+mod words;

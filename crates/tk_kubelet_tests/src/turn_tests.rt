@@ -1,289 +1,118 @@
-use crate::bench::{Look, told_of};
-use crate::given::Given;
+//! What the turns of a kubelet come to.
+
+use crate::rows::rows_hold;
 use std::test::Fail;
 
-const MAKE: Look = Look::Make;
+/// Pods from their claim to their end, and what stands on the host meanwhile.
+const ROWS: &str = "A step ends its pod.
+plain 0 0 0: make, make, round, round, round, round, round, stands /work/w-pod-1/run/2/out, stands /work/w-pod-1/run/2/out.err
+=> wrote:4 acted wrote:5 idle idle gone gone claimed:1 0 Succeeded
 
-const ROUND: Look = Look::Round;
+A step that fails ends its pod.
+wide 0 3 0: make, make, round, round, round, round, round, stands /work/w-pod-1/run/2/out, stands /work/w-pod-1/run/2/out.err
+=> wrote:4 acted acted wrote:5 idle gone stands claimed:1 0 3 Failed:3
 
-const RESTART: Look = Look::Restart;
+The first step fails.
+wide 9 0 0: make, make, round, round, round, round, round, stands /work/w-pod-1/run/2/out, stands /work/w-pod-1/run/2/out.err
+=> wrote:4 acted wrote:5 idle idle gone stands claimed:1 9 Failed:9
 
-const WIDE: Given = Given::Wide { keep: false };
+The second step may fail.
+keep 0 3 0: make, make, round, round, round, round, round, stands /work/w-pod-1/run/2/out, stands /work/w-pod-1/run/2/out.err
+=> wrote:4 acted acted acted wrote:5 stands gone claimed:1 0 3 0 Succeeded
 
-#[test]
-fn steps_end_their_pod(rt: HostRuntime) -> Result<(), Fail> {
-    let alloc = rt.alloc();
-    let keep = Given::Wide { keep: true };
-    let out = Look::Stands("/work/w-pod-1/run/2/out");
-    let err = Look::Stands("/work/w-pod-1/run/2/out.err");
-    let looks = [MAKE, MAKE, ROUND, ROUND, ROUND, ROUND, ROUND, out, err];
-    for (given, exits, text) in [
-        (
-            Given::Plain,
-            [0, 0, 0],
-            "wrote:4 acted wrote:5 idle idle gone gone claimed:1 0 Succeeded",
-        ),
-        (
-            WIDE,
-            [0, 3, 0],
-            "wrote:4 acted acted wrote:5 idle gone stands claimed:1 0 3 Failed:3",
-        ),
-        (
-            WIDE,
-            [9, 0, 0],
-            "wrote:4 acted wrote:5 idle idle gone stands claimed:1 9 Failed:9",
-        ),
-        (
-            keep,
-            [0, 3, 0],
-            "wrote:4 acted acted acted wrote:5 stands gone claimed:1 0 3 0 Succeeded",
-        ),
-        (
-            keep,
-            [0, 3, 7],
-            "wrote:4 acted acted acted wrote:5 gone stands claimed:1 0 3 7 Failed:7",
-        ),
-    ] {
-        let told = told_of(alloc, given, &exits, &[], &[], &looks)?;
-        assert_eq!(rt; told.text.as_str(), text);
-    }
-    Ok(())
-}
+The last step fails.
+keep 0 3 7: make, make, round, round, round, round, round, stands /work/w-pod-1/run/2/out, stands /work/w-pod-1/run/2/out.err
+=> wrote:4 acted acted acted wrote:5 gone stands claimed:1 0 3 7 Failed:7
 
-#[test]
-fn an_attempt_is_made_again(rt: HostRuntime) -> Result<(), Fail> {
-    let alloc = rt.alloc();
-    let looks = [
-        MAKE, MAKE, ROUND, ROUND, ROUND, MAKE, MAKE, MAKE, ROUND, ROUND, ROUND, ROUND,
-    ];
-    let told = told_of(alloc, Given::Plain, &[1], &[], &[], &looks)?;
-    assert_eq!(rt;
-        told.text.as_str(),
-        "wrote:4 acted wrote:5 wrote:9 acted wrote:10 idle claimed:1 1 Failed:1 claimed:1 0 Succeeded"
-    );
-    Ok(())
-}
+An attempt is made again.
+plain 1: make, make, round, round, round, make, make, make, round, round, round, round
+=> wrote:4 acted wrote:5 wrote:9 acted wrote:10 idle claimed:1 1 Failed:1 claimed:1 0 Succeeded
 
-#[test]
-fn two_pods_go_side_by_side(rt: HostRuntime) -> Result<(), Fail> {
-    let alloc = rt.alloc();
-    let looks = [
-        MAKE, MAKE, MAKE, MAKE, ROUND, ROUND, ROUND, ROUND, ROUND, ROUND, ROUND,
-    ];
-    let told = told_of(
-        alloc,
-        Given::Both { keep: false },
-        &[0, 5],
-        &[],
-        &[],
-        &looks,
-    )?;
-    assert_eq!(rt;
-        told.text.as_str(),
-        "wrote:7 wrote:8 acted wrote:9 wrote:10 idle idle claimed:1 claimed:1 0 5 Failed:5 0 Succeeded"
-    );
-    Ok(())
-}
+Two pods go side by side.
+both 0 5: make, make, make, make, round, round, round, round, round, round, round
+=> wrote:7 wrote:8 acted wrote:9 wrote:10 idle idle claimed:1 claimed:1 0 5 Failed:5 0 Succeeded
 
-#[test]
-fn a_marked_pod_is_cancelled(rt: HostRuntime) -> Result<(), Fail> {
-    let alloc = rt.alloc();
-    let mark = Look::Cancel("w");
-    let next = Look::Stands("/work/w-pod-1/run/1/out");
-    let start = Look::Stands("/work/w-pod-1/run/start");
-    for (looks, text) in [
-        // Between two steps.
-        (
-            [MAKE, MAKE, ROUND, ROUND, ROUND, mark, ROUND, next, ROUND],
-            "wrote:4 acted acted wrote:6 gone idle claimed:1 0 Cancelled",
-        ),
-        // Before its first step is found ended.
-        (
-            [MAKE, MAKE, ROUND, ROUND, mark, ROUND, start, next, ROUND],
-            "wrote:4 acted wrote:6 stands gone idle claimed:1 Cancelled",
-        ),
-        // The mark isn't seen yet.
-        (
-            [
-                MAKE,
-                MAKE,
-                ROUND,
-                ROUND,
-                mark,
-                Look::Turn,
-                ROUND,
-                next,
-                ROUND,
-            ],
-            "wrote:4 acted acted wrote:6 gone idle claimed:1 0 Cancelled",
-        ),
-        // Before it is claimed.
-        (
-            [MAKE, MAKE, mark, ROUND, ROUND, start, next, ROUND, ROUND],
-            "wrote:5 wrote:6 gone gone idle idle claimed:1 Cancelled",
-        ),
-        // Before it is made.
-        (
-            [MAKE, mark, MAKE, ROUND, ROUND, start, next, ROUND, ROUND],
-            "wrote:5 wrote:6 gone gone idle idle claimed:1 Cancelled",
-        ),
-    ] {
-        let told = told_of(alloc, WIDE, &[], &[], &[], &looks)?;
-        assert_eq!(rt; told.text.as_str(), text);
-    }
-    Ok(())
-}
+A marked pod is cancelled between two steps.
+wide: make, make, round, round, round, cancel w, round, stands /work/w-pod-1/run/1/out, round
+=> wrote:4 acted acted wrote:6 gone idle claimed:1 0 Cancelled
+
+It is marked before its first step is found ended.
+wide: make, make, round, round, cancel w, round, stands /work/w-pod-1/run/start, stands /work/w-pod-1/run/1/out, round
+=> wrote:4 acted wrote:6 stands gone idle claimed:1 Cancelled
+
+The mark is not seen yet.
+wide: make, make, round, round, cancel w, turn, round, stands /work/w-pod-1/run/1/out, round
+=> wrote:4 acted acted wrote:6 gone idle claimed:1 0 Cancelled
+
+It is marked before it is claimed.
+wide: make, make, cancel w, round, round, stands /work/w-pod-1/run/start, stands /work/w-pod-1/run/1/out, round, round
+=> wrote:5 wrote:6 gone gone idle idle claimed:1 Cancelled
+
+It is marked before it is made.
+wide: make, cancel w, make, round, round, stands /work/w-pod-1/run/start, stands /work/w-pod-1/run/1/out, round, round
+=> wrote:5 wrote:6 gone gone idle idle claimed:1 Cancelled
+
+A pod is not late yet.
+plain: clock 5, make, make, round, clock 1004, round, clock 1004, round, round
+=> wrote:4 acted wrote:5 idle claimed:1 0 Succeeded
+
+A late pod times out.
+plain: clock 5, make, make, round, clock 1004, round, clock 1005, round, round
+=> wrote:4 acted wrote:5 idle claimed:1 TimedOut
+
+A late pod that is marked is cancelled.
+plain: clock 5, make, make, round, clock 1004, round, clock 1005, cancel t, round
+=> wrote:4 acted wrote:6 claimed:1 Cancelled
+
+A timeout of 0 is none.
+wide: clock 5, make, make, round, clock 1004, round, clock 31536000000, round, round
+=> wrote:4 acted acted acted claimed:1
+
+A pod of an earlier life is lost: its first step was started.
+wide: make, make, round, round, restart, round, round, stands /work/w-pod-1/run/start, stands /work/w-pod-1/run/0/out
+=> wrote:4 acted wrote:5 idle stands gone claimed:1 Lost
+
+It was claimed, and the next life sees nothing at first.
+wide: make, make, round, restart, turn, round, round, stands /work/w-pod-1/run/start, stands /work/w-pod-1/run/0/out
+=> wrote:4 idle wrote:5 idle gone gone claimed:1 Lost
+
+It was claimed two lives ago.
+wide: make, make, round, restart, restart, round, round, stands /work/w-pod-1/run/start, stands /work/w-pod-1/run/0/out
+=> wrote:4 wrote:5 idle gone gone claimed:1 Lost
+
+It was not claimed before.
+wide: make, make, restart, round, round, round, stands /work/w-pod-1/run/start, stands /work/w-pod-1/run/0/out, round
+=> wrote:4 acted acted stands stands acted claimed:2
+
+The next life goes on.
+plain: make, make, round, round, restart, round, make, make, make, round, round, round, round
+=> wrote:4 acted wrote:5 wrote:9 acted wrote:10 idle claimed:1 Lost claimed:2 0 Succeeded
+
+A claim that is not seen conflicts.
+plain: make, make, round, turn, round, round
+=> wrote:4 conflict:4 wrote:5 idle claimed:1 0 Succeeded
+
+A killed step is never started.
+wide: make, make, round, round, kill, round, round, round, stands /work/w-pod-1/run/1/out
+=> wrote:4 acted acted idle idle gone claimed:1
+
+A pod's folder is made before its steps: its start file.
+wide: make, make, round, stands /work/w-pod-1/run/start, round, stands /work/w-pod-1/run/start
+=> wrote:4 gone acted stands claimed:1
+
+A script is put.
+wide: make, make, round, stands /work/w-pod-1/scripts/1, round, stands /work/w-pod-1/scripts/1
+=> wrote:4 gone acted stands claimed:1
+
+A workspace of its own is made.
+wide: make, make, round, stands /work/w-pod-1/ws/own/.space, round, stands /work/w-pod-1/ws/own/.space
+=> wrote:4 gone acted stands claimed:1
+
+A workspace of a claim is made.
+wide: make, make, round, stands /work/claims/c/below/.claim, round, stands /work/claims/c/below/.claim
+=> wrote:4 gone acted stands claimed:1";
 
 #[test]
-fn a_late_pod_times_out(rt: HostRuntime) -> Result<(), Fail> {
-    let alloc = rt.alloc();
-    let opened = Look::Clock(5);
-    let before = Look::Clock(1004);
-    let mark = Look::Cancel("t");
-    for (given, last, look, text) in [
-        (
-            Given::Plain,
-            1004,
-            ROUND,
-            "wrote:4 acted wrote:5 idle claimed:1 0 Succeeded",
-        ),
-        (
-            Given::Plain,
-            1005,
-            ROUND,
-            "wrote:4 acted wrote:5 idle claimed:1 TimedOut",
-        ),
-        (
-            Given::Plain,
-            1005,
-            mark,
-            "wrote:4 acted wrote:6 claimed:1 Cancelled",
-        ),
-        // A timeout of 0 is none.
-        (
-            WIDE,
-            31_536_000_000,
-            ROUND,
-            "wrote:4 acted acted acted claimed:1",
-        ),
-    ] {
-        let last = Look::Clock(last);
-        let looks = [opened, MAKE, MAKE, ROUND, before, ROUND, last, look, ROUND];
-        let told = told_of(alloc, given, &[], &[], &[], &looks)?;
-        assert_eq!(rt; told.text.as_str(), text);
-    }
-    Ok(())
-}
-
-#[test]
-fn a_pod_of_an_earlier_life_is_lost(rt: HostRuntime) -> Result<(), Fail> {
-    let alloc = rt.alloc();
-    let out = Look::Stands("/work/w-pod-1/run/0/out");
-    let start = Look::Stands("/work/w-pod-1/run/start");
-    for (looks, text) in [
-        // Its first step was started.
-        (
-            [MAKE, MAKE, ROUND, ROUND, RESTART, ROUND, ROUND, start, out],
-            "wrote:4 acted wrote:5 idle stands gone claimed:1 Lost",
-        ),
-        // It was claimed, and the next life sees nothing at first.
-        (
-            [
-                MAKE,
-                MAKE,
-                ROUND,
-                RESTART,
-                Look::Turn,
-                ROUND,
-                ROUND,
-                start,
-                out,
-            ],
-            "wrote:4 idle wrote:5 idle gone gone claimed:1 Lost",
-        ),
-        // Two lives ago.
-        (
-            [
-                MAKE, MAKE, ROUND, RESTART, RESTART, ROUND, ROUND, start, out,
-            ],
-            "wrote:4 wrote:5 idle gone gone claimed:1 Lost",
-        ),
-        // It wasn't claimed before.
-        (
-            [MAKE, MAKE, RESTART, ROUND, ROUND, ROUND, start, out, ROUND],
-            "wrote:4 acted acted stands stands acted claimed:2",
-        ),
-    ] {
-        let told = told_of(alloc, WIDE, &[], &[], &[], &looks)?;
-        assert_eq!(rt; told.text.as_str(), text);
-    }
-    Ok(())
-}
-
-#[test]
-fn the_next_life_goes_on(rt: HostRuntime) -> Result<(), Fail> {
-    let alloc = rt.alloc();
-    let looks = [
-        MAKE, MAKE, ROUND, ROUND, RESTART, ROUND, MAKE, MAKE, MAKE, ROUND, ROUND, ROUND, ROUND,
-    ];
-    let told = told_of(alloc, Given::Plain, &[], &[], &[], &looks)?;
-    assert_eq!(rt;
-        told.text.as_str(),
-        "wrote:4 acted wrote:5 wrote:9 acted wrote:10 idle claimed:1 Lost claimed:2 0 Succeeded"
-    );
-    Ok(())
-}
-
-#[test]
-fn a_claim_that_is_not_seen_conflicts(rt: HostRuntime) -> Result<(), Fail> {
-    let alloc = rt.alloc();
-    let looks = [MAKE, MAKE, ROUND, Look::Turn, ROUND, ROUND];
-    let told = told_of(alloc, Given::Plain, &[], &[], &[], &looks)?;
-    let text = "wrote:4 conflict:4 wrote:5 idle claimed:1 0 Succeeded";
-    assert_eq!(rt; told.text.as_str(), text);
-    Ok(())
-}
-
-#[test]
-fn a_killed_step_is_never_started(rt: HostRuntime) -> Result<(), Fail> {
-    let alloc = rt.alloc();
-    let next = Look::Stands("/work/w-pod-1/run/1/out");
-    let looks = [
-        MAKE,
-        MAKE,
-        ROUND,
-        ROUND,
-        Look::Kill,
-        ROUND,
-        ROUND,
-        ROUND,
-        next,
-    ];
-    let told = told_of(alloc, WIDE, &[], &[], &[], &looks)?;
-    assert_eq!(rt;
-        told.text.as_str(),
-        "wrote:4 acted acted idle idle gone claimed:1"
-    );
-    Ok(())
-}
-
-#[test]
-fn a_pods_folder_is_made_before_its_steps(rt: HostRuntime) -> Result<(), Fail> {
-    let alloc = rt.alloc();
-    for path in [
-        "/work/w-pod-1/run/start",
-        "/work/w-pod-1/scripts/1",
-        "/work/w-pod-1/ws/own/.space",
-        "/work/claims/c/below/.claim",
-    ] {
-        let stands = Look::Stands(path);
-        let looks = [MAKE, MAKE, ROUND, stands, ROUND, stands];
-        let told = told_of(alloc, WIDE, &[], &[], &[], &looks)?;
-        assert_eq!(rt;
-            told.text.as_str(),
-            "wrote:4 gone acted stands claimed:1",
-            "{path}"
-        );
-    }
-    Ok(())
+fn kubelets_do_what_is_due(rt: HostRuntime) -> Result<(), Fail> {
+    rows_hold(&rt, rt.alloc(), ROWS)
 }

@@ -4,6 +4,7 @@ use std::test::Fail;
 use tk_graph::{OrderError, all_parents, cycle, order, parents};
 use tk_types::{List, Matrix, Param, PipelineTask, TaskSource, Text, Value, When};
 
+/// A parameter `p` that is this text.
 fn param(alloc: Global, value: &str) -> Result<Param, AllocError> {
     Ok(Param {
         name: Text::from_str(alloc, "p")?,
@@ -48,6 +49,7 @@ fn tasks(alloc: Global, text: &str) -> Result<Vec<PipelineTask>, AllocError> {
     Ok(tasks)
 }
 
+/// A cycle by the names of its tasks.
 fn names_line(alloc: Global, names: &[Text]) -> Result<String, AllocError> {
     let mut line = String::from_str(alloc, "cycle")?;
     for name in names {
@@ -57,6 +59,7 @@ fn names_line(alloc: Global, names: &[Text]) -> Result<String, AllocError> {
     Ok(line)
 }
 
+/// Whether tasks have ranks, or why they have none.
 fn answer(rt: &impl Abort, alloc: Global, tasks: &[PipelineTask]) -> Result<String, AllocError> {
     assert!(rt; tasks.len() < 1000);
     let mut line = String::new(alloc);
@@ -71,38 +74,35 @@ fn answer(rt: &impl Abort, alloc: Global, tasks: &[PipelineTask]) -> Result<Stri
     Ok(line)
 }
 
+/// Tasks, and behind `=> ` what their order is told as.
+const ORDER_ROWS: &str = "a,b a => ranks
+b a,a => ranks
+a,b a a,c b a b,a => ranks
+a b,b a => cycle a b
+a,b b => cycle b
+d,a d c,b c,c b => cycle c b
+a c b,b a,c a => cycle a b
+a,b a y x,c w => unknown 1 y
+a b,b a,c d => unknown 2 d
+a,b $(tasks.a.results.r) => ranks
+a $(tasks.b.results['r'])-,b a => cycle a b
+a $(tasks.b.results.r[*]),b $(tasks.a.results.r) => cycle a b
+a,b x $(tasks.y.results.r) => unknown 1 y
+a $(tasks.b.status)$(params.b)$(tasks.b,b a => ranks
+a $(tasks.b.results.r)$(tasks.b),b a => ranks";
+
 #[test]
 fn orders(rt: HostRuntime) -> Result<(), Fail> {
-    for (text, told) in [
-        ("a,b a", "ranks"),
-        ("b a,a", "ranks"),
-        ("a,b a a,c b a b,a", "ranks"),
-        ("a b,b a", "cycle a b"),
-        ("a,b b", "cycle b"),
-        ("d,a d c,b c,c b", "cycle c b"),
-        ("a c b,b a,c a", "cycle a b"),
-        ("a,b a y x,c w", "unknown 1 y"),
-        ("a b,b a,c d", "unknown 2 d"),
-        ("a,b $(tasks.a.results.r)", "ranks"),
-        ("a $(tasks.b.results['r'])-,b a", "cycle a b"),
-        (
-            "a $(tasks.b.results.r[*]),b $(tasks.a.results.r)",
-            "cycle a b",
-        ),
-        ("a,b x $(tasks.y.results.r)", "unknown 1 y"),
-        ("a $(tasks.b.status)$(params.b)$(tasks.b,b a", "ranks"),
-        ("a $(tasks.b.results.r)$(tasks.b),b a", "ranks"),
-    ] {
+    for row in ORDER_ROWS.split('\n') {
+        let (text, wanted) = row.split_once(" => ").unwrap_or((row, "no answer"));
         let tasks = tasks(rt.alloc(), text)?;
-        assert_eq!(rt;
-            answer(&rt, rt.alloc(), tasks.as_slice())?.as_str(),
-            told,
-            "at {text}"
-        );
+        let told = answer(&rt, rt.alloc(), tasks.as_slice())?;
+        assert_eq!(rt; told.as_str(), wanted, "of {text}");
     }
     Ok(())
 }
 
+/// The cycle that is found in tasks, or `none`.
 fn cycle_line(
     rt: &impl Abort,
     alloc: Global,
@@ -115,28 +115,27 @@ fn cycle_line(
     }
 }
 
+/// Tasks, and behind `=> ` the cycle that is found in them.
+const CYCLE_ROWS: &str = "a,b a => none
+a,b a a,c a b a b,a => none
+a b,b a => cycle a b
+a,b b => cycle b
+d,a d c,b c,c b => cycle c b
+a c b,b a,c a => cycle a b
+a,b x => none
+a,b a y x,c w => none
+a b x,b a => cycle a b
+a b,b a,c d => cycle a b
+a,b $(tasks.a.results.r) => none
+a $(tasks.b.results['r'])-,b a => cycle a b";
+
 #[test]
 fn cycles(rt: HostRuntime) -> Result<(), Fail> {
-    for (text, told) in [
-        ("a,b a", "none"),
-        ("a,b a a,c a b a b,a", "none"),
-        ("a b,b a", "cycle a b"),
-        ("a,b b", "cycle b"),
-        ("d,a d c,b c,c b", "cycle c b"),
-        ("a c b,b a,c a", "cycle a b"),
-        ("a,b x", "none"),
-        ("a,b a y x,c w", "none"),
-        ("a b x,b a", "cycle a b"),
-        ("a b,b a,c d", "cycle a b"),
-        ("a,b $(tasks.a.results.r)", "none"),
-        ("a $(tasks.b.results['r'])-,b a", "cycle a b"),
-    ] {
+    for row in CYCLE_ROWS.split('\n') {
+        let (text, wanted) = row.split_once(" => ").unwrap_or((row, "no answer"));
         let tasks = tasks(rt.alloc(), text)?;
-        assert_eq!(rt;
-            cycle_line(&rt, rt.alloc(), tasks.as_slice())?.as_str(),
-            told,
-            "at {text}"
-        );
+        let told = cycle_line(&rt, rt.alloc(), tasks.as_slice())?;
+        assert_eq!(rt; told.as_str(), wanted, "of {text}");
     }
     Ok(())
 }
@@ -159,12 +158,14 @@ fn parents_and_ranks(rt: HostRuntime) -> Result<(), Fail> {
     Ok(())
 }
 
+/// One parameter.
 fn one_param(alloc: Global, value: &str) -> Result<List<Param>, AllocError> {
     let mut params = List::new(alloc);
     params.push(param(alloc, value)?)?;
     Ok(params)
 }
 
+/// A matrix that refers to a result in its list and to one in its entry.
 fn matrix(alloc: Global) -> Result<Matrix, AllocError> {
     let mut include = List::new(alloc);
     include.push(one_param(alloc, "-$(tasks.b.results.r)")?)?;
@@ -174,6 +175,7 @@ fn matrix(alloc: Global) -> Result<Matrix, AllocError> {
     })
 }
 
+/// A guard that refers to a result in its input and to one in its values.
 fn guards(alloc: Global) -> Result<List<When>, AllocError> {
     let mut values = List::new(alloc);
     values.push(Text::from_str(alloc, "$(tasks.a.results.r)")?)?;

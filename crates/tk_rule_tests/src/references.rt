@@ -3,6 +3,7 @@ use std::fmt::Write;
 use std::test::Fail;
 use tk_vars::{Part, Parts, Piece, Pieces, Reference, ScanError, Word, scan};
 
+/// Adds a part behind a space.
 fn show_part(out: &mut String, part: &Part) -> Result<(), AllocError> {
     match part {
         Part::Name(name) => write!(out, " {}", name.as_str()),
@@ -11,6 +12,7 @@ fn show_part(out: &mut String, part: &Part) -> Result<(), AllocError> {
     }
 }
 
+/// Adds a reference, with its spelling and its parts.
 fn show_reference(out: &mut String, reference: &Reference) -> Result<(), AllocError> {
     write!(out, "{{{}", reference.spelling.as_str())?;
     for part in reference.parts.as_slice() {
@@ -37,98 +39,57 @@ fn shown(alloc: Global, scanned: Result<Pieces, ScanError>) -> Result<String, Al
     Ok(out)
 }
 
-const TEXTS: [(&str, &str); 42] = [
-    ("", ""),
-    ("x$(params['a.b'])y", "<x>{$(params['a.b']) params a.b}<y>"),
-    ("$(date)", "<$(date)>"),
-    ("-$(params.x[*])", "bad 1"),
-    ("$(params.z)", "{$(params.z) params z}"),
-    ("$(params.x[*])", "{$(params.x[*]) params x *}"),
-    ("$(params.x[*])$(params.)", "bad 0"),
-    ("$$(params.x)", "<$>{$(params.x) params x}"),
-    ("$(paramsx.y)", "<$(paramsx.y)>"),
-    ("$(params)", "<$(params)>"),
-    ("$(", "<$(>"),
-    ("$(params.)", "bad 0"),
-    ("$(params[])", "bad 0"),
-    ("$(params['a)", "bad 0"),
-    ("$(params.x", "bad 0"),
-    ("$(params.x.y.z)", "bad 0"),
-    ("$(params.x['k'])", "bad 0"),
-    ("a $(params.x) $(params.) $(params.)", "bad 14"),
-    (
-        "$(params[\"x_1-\"].k)",
-        "{$(params[\"x_1-\"].k) params x_1- k}",
-    ),
-    ("$(params.x[0])", "{$(params.x[0]) params x [0]}"),
-    ("$(params[0])", "{$(params[0]) params [0]}"),
-    ("$(params['x\"])", "bad 0"),
-    ("$(params[''])", "bad 0"),
-    (
-        "$(tasks.a.results.r)",
-        "{$(tasks.a.results.r) tasks a results r}",
-    ),
-    ("$(tasks.a.results.r[01])", "bad 0"),
-    (
-        "$(tasks.a.results.r[999999999])",
-        "{$(tasks.a.results.r[999999999]) tasks a results r [999999999]}",
-    ),
-    ("$(tasks.a.results.r[1000000000])", "bad 0"),
-    (
-        "$(tasks.a.results['r.s'].k)",
-        "{$(tasks.a.results['r.s'].k) tasks a results r.s k}",
-    ),
-    ("$(tasks['a'].results.r)", "bad 0"),
-    (
-        "$(tasks.a.status)$(tasks.status)",
-        "{$(tasks.a.status) tasks a status}{$(tasks.status) tasks status}",
-    ),
-    (
-        "$(finally.a.results.r[*])",
-        "{$(finally.a.results.r[*]) finally a results r *}",
-    ),
-    ("$(finally.a.status)", "bad 0"),
-    (
-        "$(context.pipelineRun.name)",
-        "{$(context.pipelineRun.name) context pipelineRun name}",
-    ),
-    (
-        "$(context.pipeline.name)",
-        "{$(context.pipeline.name) context pipeline name}",
-    ),
-    (
-        "$(context.pipelineTask.retries)",
-        "{$(context.pipelineTask.retries) context pipelineTask retries}",
-    ),
-    (
-        "$(context.taskRun.name)",
-        "{$(context.taskRun.name) context taskRun name}",
-    ),
-    (
-        "$(context.task.name)$(context.task.retry-count)",
-        "{$(context.task.name) context task name}{$(context.task.retry-count) context task retry-count}",
-    ),
-    ("$(context.task.uid)", "bad 0"),
-    (
-        "> $(results.r.path)",
-        "<> >{$(results.r.path) results r path}",
-    ),
-    (
-        "$(steps.s.results.r)",
-        "{$(steps.s.results.r) steps s results r}",
-    ),
-    (
-        "$(workspaces['w'].path)",
-        "{$(workspaces['w'].path) workspaces w path}",
-    ),
-    ("é$(params.x)→$(params.é)", "bad 16"),
-];
+/// Texts, and behind `=> ` what is found in them.
+const TEXTS: &str = r#"x$(params['a.b'])y => <x>{$(params['a.b']) params a.b}<y>
+$(date) => <$(date)>
+-$(params.x[*]) => bad 1
+$(params.z) => {$(params.z) params z}
+$(params.x[*]) => {$(params.x[*]) params x *}
+$(params.x[*])$(params.) => bad 0
+$$(params.x) => <$>{$(params.x) params x}
+$(paramsx.y) => <$(paramsx.y)>
+$(params) => <$(params)>
+$( => <$(>
+$(params.) => bad 0
+$(params[]) => bad 0
+$(params['a) => bad 0
+$(params.x => bad 0
+$(params.x.y.z) => bad 0
+$(params.x['k']) => bad 0
+a $(params.x) $(params.) $(params.) => bad 14
+$(params["x_1-"].k) => {$(params["x_1-"].k) params x_1- k}
+$(params.x[0]) => {$(params.x[0]) params x [0]}
+$(params[0]) => {$(params[0]) params [0]}
+$(params['x"]) => bad 0
+$(params['']) => bad 0
+$(tasks.a.results.r) => {$(tasks.a.results.r) tasks a results r}
+$(tasks.a.results.r[01]) => bad 0
+$(tasks.a.results.r[999999999]) => {$(tasks.a.results.r[999999999]) tasks a results r [999999999]}
+$(tasks.a.results.r[1000000000]) => bad 0
+$(tasks.a.results['r.s'].k) => {$(tasks.a.results['r.s'].k) tasks a results r.s k}
+$(tasks['a'].results.r) => bad 0
+$(tasks.a.status)$(tasks.status) => {$(tasks.a.status) tasks a status}{$(tasks.status) tasks status}
+$(finally.a.results.r[*]) => {$(finally.a.results.r[*]) finally a results r *}
+$(finally.a.status) => bad 0
+$(context.pipelineRun.name) => {$(context.pipelineRun.name) context pipelineRun name}
+$(context.pipeline.name) => {$(context.pipeline.name) context pipeline name}
+$(context.pipelineTask.retries) => {$(context.pipelineTask.retries) context pipelineTask retries}
+$(context.taskRun.name) => {$(context.taskRun.name) context taskRun name}
+$(context.task.name)$(context.task.retry-count) => {$(context.task.name) context task name}{$(context.task.retry-count) context task retry-count}
+$(context.task.uid) => bad 0
+> $(results.r.path) => <> >{$(results.r.path) results r path}
+$(steps.s.results.r) => {$(steps.s.results.r) steps s results r}
+$(workspaces['w'].path) => {$(workspaces['w'].path) workspaces w path}
+é$(params.x)→$(params.é) => bad 16"#;
 
 #[test]
 fn scans(rt: HostRuntime) -> Result<(), Fail> {
-    for (text, want) in TEXTS {
-        let got = shown(rt.alloc(), scan(rt.alloc(), text))?;
-        assert_eq!(rt; got.as_str(), want, "at {text}");
+    let nothing = shown(rt.alloc(), scan(rt.alloc(), ""))?;
+    assert_eq!(rt; nothing.as_str(), "");
+    for row in TEXTS.split('\n') {
+        let (text, wanted) = row.split_once(" => ").unwrap_or((row, "no answer"));
+        let found = shown(rt.alloc(), scan(rt.alloc(), text))?;
+        assert_eq!(rt; found.as_str(), wanted, "of {text}");
     }
     Ok(())
 }

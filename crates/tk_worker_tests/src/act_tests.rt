@@ -1,84 +1,67 @@
 //! What workers write.
 
-use crate::play::Step::Wait;
-use crate::play::{CANCEL, RUN, RUN_2, SEE, SEE_2, TASK, acts, after};
+use crate::play::after;
+use crate::rows::{done, parts};
 use crate::stores::store_at;
+use crate::words::steps;
 use std::test::Fail;
 use tk_journal::{Actor, Fronts};
 
-#[test]
-fn a_run_goes_on_to_its_pod(rt: HostRuntime) -> Result<(), Fail> {
-    let alloc = rt.alloc();
-    let steps = [SEE, RUN, SEE, RUN, SEE, RUN, SEE, TASK, SEE, TASK];
-    let told = acts(alloc, store_at(alloc, 1)?, &steps)?;
-    let want =
-        "Start r\nSchedule r 0 1\nMakeTaskRun r-a 0 0 false\nOpenAttempt r-a\nMakePod r-a-pod-1 1 1 /work/r-a-pod-1 false\n";
-    assert_eq!(rt; told.as_str(), want);
-    Ok(())
-}
+/// What workers write, an entry a line.
+const ROWS: &str = "A run goes on to its pod.
+1: see, run, see, run, see, run, see, task, see, task
+=> Start r
+Schedule r 0 1
+MakeTaskRun r-a 0 0 false
+OpenAttempt r-a
+MakePod r-a-pod-1 1 1 /work/r-a-pod-1 false
+
+An ended pod closes its attempt and the run.
+8: see, task, see, run
+=> Close attempt r-a Succeeded
+Close r True Succeeded
+
+A cancelled run makes its child marked.
+3: ask r Cancelled, see, run, see, run, see, task, see, run
+=> Ask r Cancelled
+Halt r Cancelled
+MakeTaskRun r-a 0 0 true
+Close r-a
+Close r False Cancelled
+
+A timeout cancels the child that is there.
+4: see, wait 3599999, run, wait 3600000, run, see, run, see, task, see, run
+=> Halt r PipelineTimeout
+CancelTaskRun r-a
+Close r-a
+Close r False PipelineRunTimeout
+
+An open attempt of a marked child gets a marked pod.
+5: ask r Cancelled, see, run, see, run, see, task
+=> Ask r Cancelled
+Halt r Cancelled
+CancelTaskRun r-a
+MakePod r-a-pod-1 1 1 /work/r-a-pod-1 true";
 
 #[test]
-fn an_ended_pod_closes_its_attempt_and_the_run(rt: HostRuntime) -> Result<(), Fail> {
-    let alloc = rt.alloc();
-    let steps = [SEE, TASK, SEE, RUN];
-    let told = acts(alloc, store_at(alloc, 8)?, &steps)?;
-    assert_eq!(rt;
-        told.as_str(),
-        "Close attempt r-a Succeeded\nClose r True Succeeded\n"
-    );
-    Ok(())
-}
-
-#[test]
-fn a_cancelled_run_makes_its_child_marked(rt: HostRuntime) -> Result<(), Fail> {
-    let alloc = rt.alloc();
-    let steps = [CANCEL, SEE, RUN, SEE, RUN, SEE, TASK, SEE, RUN];
-    let told = acts(alloc, store_at(alloc, 3)?, &steps)?;
-    let want =
-        "Ask r Cancelled\nHalt r Cancelled\nMakeTaskRun r-a 0 0 true\nClose r-a\nClose r False Cancelled\n";
-    assert_eq!(rt; told.as_str(), want);
-    Ok(())
-}
-
-#[test]
-fn a_timeout_cancels_the_child_that_is_there(rt: HostRuntime) -> Result<(), Fail> {
-    let alloc = rt.alloc();
-    let steps = [
-        SEE,
-        Wait(3_599_999),
-        RUN,
-        Wait(3_600_000),
-        RUN,
-        SEE,
-        RUN,
-        SEE,
-        TASK,
-        SEE,
-        RUN,
-    ];
-    let told = acts(alloc, store_at(alloc, 4)?, &steps)?;
-    let want =
-        "Halt r PipelineTimeout\nCancelTaskRun r-a\nClose r-a\nClose r False PipelineRunTimeout\n";
-    assert_eq!(rt; told.as_str(), want);
-    Ok(())
-}
-
-#[test]
-fn an_open_attempt_of_a_marked_child_gets_a_marked_pod(rt: HostRuntime) -> Result<(), Fail> {
-    let alloc = rt.alloc();
-    let steps = [CANCEL, SEE, RUN, SEE, RUN, SEE, TASK];
-    let told = acts(alloc, store_at(alloc, 5)?, &steps)?;
-    let want =
-        "Ask r Cancelled\nHalt r Cancelled\nCancelTaskRun r-a\nMakePod r-a-pod-1 1 1 /work/r-a-pod-1 true\n";
-    assert_eq!(rt; told.as_str(), want);
+fn workers_write_what_is_due(rt: HostRuntime) -> Result<(), Fail> {
+    for row in ROWS.split("\n\n") {
+        let (line, wanted) = parts(row);
+        let told = done(rt.alloc(), line)?;
+        assert_eq!(rt;
+            told.as_str().strip_suffix('\n').unwrap_or("nothing"),
+            wanted,
+            "of {row}"
+        );
+    }
     Ok(())
 }
 
 #[test]
 fn an_entry_stands_at_the_fronts_of_its_cache(rt: HostRuntime) -> Result<(), Fail> {
     let alloc = rt.alloc();
-    let steps = [SEE_2, CANCEL, Wait(7), RUN_2];
-    let store = after(alloc, store_at(alloc, 3)?, &steps)?;
+    let steps = steps(alloc, "see2, ask r Cancelled, wait 7, run2")?;
+    let store = after(alloc, store_at(alloc, 3)?, steps.as_slice())?;
     assert_eq!(rt; store.journal().len(), 5);
     let last = store.journal().entry(5);
     let fronts = Fronts {

@@ -1,76 +1,30 @@
 //! Asks, and what run workers do with them.
 
-use crate::play::Step::Ask;
-use crate::play::{
-    BEGIN, CANCEL, FINISH, IDLE, NO_SUCH, RUN, SEE, STOP, TASK, answers, asked, conflict, finished,
-    not_higher, wrote,
-};
-use crate::stores::{pending_store, store_at};
+use crate::rows::answers_hold;
 use std::test::Fail;
-use tk_types::Asked;
+
+/// What users are answered, and workers behind them.
+const ROWS: &str = "An ask of what is not there is refused; the last names no standalone TaskRun.
+4: ask q Cancelled, ask r-a Cancelled, ask q TaskRunCancelled, ask r TaskRunCancelled, ask r-a TaskRunCancelled
+=> no such, no such, no such, no such, no such
+
+An ask of a closed run tells its version.
+8: see, task, see, run, ask r Cancelled, ask r Start
+=> wrote 9, wrote 10, finished 10, finished 10
+
+An ask is above those before it.
+2: ask r Start, ask r StoppedRunFinally, ask r StoppedRunFinally, ask r CancelledRunFinally, ask r StoppedRunFinally, ask r Cancelled, ask r CancelledRunFinally, ask r Start
+=> not higher 0, asked 3, not higher 1, asked 4, not higher 2, asked 5, not higher 4, not higher 4
+
+A pending run starts once it is asked.
+pending: see, run, ask r Start, ask r Start, run, see, run
+=> idle, asked 2, not higher 0, idle, wrote 3
+
+A worker that missed an ask is told.
+2: see, ask r Cancelled, run, see, run
+=> asked 3, conflict 3, wrote 4";
 
 #[test]
-fn an_ask_of_what_is_not_there_is_refused(rt: HostRuntime) -> Result<(), Fail> {
-    let alloc = rt.alloc();
-    // The last names a TaskRun, though no standalone one.
-    let steps = [
-        Ask("q", Asked::Cancelled),
-        Ask("r-a", Asked::Cancelled),
-        Ask("q", Asked::TaskRunCancelled),
-        Ask("r", Asked::TaskRunCancelled),
-        Ask("r-a", Asked::TaskRunCancelled),
-    ];
-    let want = [NO_SUCH; 5];
-    let told = answers(alloc, store_at(alloc, 4)?, &steps)?;
-    assert_eq!(rt; told.as_slice(), want.as_slice());
-    Ok(())
-}
-
-#[test]
-fn an_ask_of_a_closed_run_tells_its_version(rt: HostRuntime) -> Result<(), Fail> {
-    let alloc = rt.alloc();
-    let steps = [SEE, TASK, SEE, RUN, CANCEL, BEGIN];
-    let want = [wrote(9), wrote(10), finished(10), finished(10)];
-    let told = answers(alloc, store_at(alloc, 8)?, &steps)?;
-    assert_eq!(rt; told.as_slice(), want.as_slice());
-    Ok(())
-}
-
-#[test]
-fn an_ask_is_above_those_before_it(rt: HostRuntime) -> Result<(), Fail> {
-    let alloc = rt.alloc();
-    let steps = [BEGIN, STOP, STOP, FINISH, STOP, CANCEL, FINISH, BEGIN];
-    let want = [
-        not_higher(0),
-        asked(3),
-        not_higher(1),
-        asked(4),
-        not_higher(2),
-        asked(5),
-        not_higher(4),
-        not_higher(4),
-    ];
-    let told = answers(alloc, store_at(alloc, 2)?, &steps)?;
-    assert_eq!(rt; told.as_slice(), want.as_slice());
-    Ok(())
-}
-
-#[test]
-fn a_pending_run_starts_once_it_is_asked(rt: HostRuntime) -> Result<(), Fail> {
-    let alloc = rt.alloc();
-    let steps = [SEE, RUN, BEGIN, BEGIN, RUN, SEE, RUN];
-    let want = [IDLE, asked(2), not_higher(0), IDLE, wrote(3)];
-    let told = answers(alloc, pending_store(alloc)?, &steps)?;
-    assert_eq!(rt; told.as_slice(), want.as_slice());
-    Ok(())
-}
-
-#[test]
-fn a_worker_that_missed_an_ask_is_told(rt: HostRuntime) -> Result<(), Fail> {
-    let alloc = rt.alloc();
-    let steps = [SEE, CANCEL, RUN, SEE, RUN];
-    let want = [asked(3), conflict(3), wrote(4)];
-    let told = answers(alloc, store_at(alloc, 2)?, &steps)?;
-    assert_eq!(rt; told.as_slice(), want.as_slice());
-    Ok(())
+fn asks_are_answered(rt: HostRuntime) -> Result<(), Fail> {
+    answers_hold(&rt, rt.alloc(), ROWS)
 }

@@ -13,8 +13,12 @@ mod place;
 #[cfg(test)]
 mod play;
 #[cfg(test)]
+mod rows;
+#[cfg(test)]
 mod stores;
 #[cfg(test)]
 mod told;
 #[cfg(test)]
 mod view_tests;
+#[cfg(test)]
+mod words;

@@ -21,68 +21,12 @@ pub(crate) enum Step {
     Wait(u64),
 }
 
-/// The first controller sees all, and its workers have their turns; the second one's too.
-pub(crate) const SEE: Step = Step::Deliver(Controller::First);
-
-pub(crate) const RUN: Step = Step::Turn(Worker::Runs, Controller::First);
-
-pub(crate) const SEE_2: Step = Step::Deliver(Controller::Second);
-
-pub(crate) const RUN_2: Step = Step::Turn(Worker::Runs, Controller::Second);
-
-pub(crate) const TASK: Step = Step::Turn(Worker::Tasks, Controller::First);
-
-/// A user asks something of the run.
-pub(crate) const BEGIN: Step = Step::Ask("r", Asked::Start);
-
-pub(crate) const STOP: Step = Step::Ask("r", Asked::StoppedRunFinally);
-
-pub(crate) const FINISH: Step = Step::Ask("r", Asked::CancelledRunFinally);
-
-pub(crate) const CANCEL: Step = Step::Ask("r", Asked::Cancelled);
-
 /// What a step is answered.
-#[derive(Clone, Copy, Debug, PartialEq, Eq)]
+#[derive(Clone, Copy)]
 pub(crate) enum Answer {
     Turn(Turn),
     Asked(AskAnswer),
 }
-
-/// A worker finds nothing to do.
-pub(crate) const IDLE: Answer = Answer::Turn(Turn::Idle);
-
-/// A worker's entry is added.
-pub(crate) fn wrote(version: u64) -> Answer {
-    Answer::Turn(Turn::Wrote { version })
-}
-
-/// What a worker would change has moved.
-pub(crate) fn conflict(found: u64) -> Answer {
-    Answer::Turn(Turn::Conflict { found })
-}
-
-/// What a worker would make is there.
-pub(crate) fn exists(holder: u64, version: u64) -> Answer {
-    Answer::Turn(Turn::Exists { holder, version })
-}
-
-/// An ask is added.
-pub(crate) fn asked(version: u64) -> Answer {
-    Answer::Asked(AskAnswer::Wrote { version })
-}
-
-/// An ask isn't above all that was asked or recorded, of which this is the greatest level.
-pub(crate) fn not_higher(level: u32) -> Answer {
-    Answer::Asked(AskAnswer::NotHigher { level })
-}
-
-/// What is asked for is closed.
-pub(crate) fn finished(version: u64) -> Answer {
-    Answer::Asked(AskAnswer::Finished { version })
-}
-
-/// Nothing has the name that is asked for.
-pub(crate) const NO_SUCH: Answer = Answer::Asked(AskAnswer::NoSuch);
 
 impl Place {
     /// One step; nothing is answered where only a view or the clock moves.

@@ -9,6 +9,7 @@ ghost use Rattle.tkn.specs.Due.{check_due, decide_due, decided as decided_facts,
 
 use crate::command::Command;
 use crate::due::{Due, checked, decided, nothing, rejected, reported};
+use crate::unready::said_of;
 use std::alloc::{AllocError, Global};
 use std::mem;
 use tk_admit::admit_with_document;
@@ -22,10 +23,12 @@ use tk_verdict::Decision;
 const ROOT: &str = "/work";
 
 /// What a command answers for an input: what is due, and the journal that its runs come to, which is empty where none ran.
+/// Beside it, what is said to people of what is admitted and can't start, if anything.
 #[derive(Drop)]
 pub struct Answer {
     pub due: Due,
     pub journal: Journal,
+    pub warnings: Option<String>,
 }
 
 /// What is due for the facts of a run.
@@ -67,21 +70,6 @@ pub(crate) fn refused(alloc: Global, refused: &Rejected) -> Result<Due, AllocErr
     }
 }
 
-/// What `check` prints for the bytes of an input.
-fn check(alloc: Global, bytes: &[u8]) -> Result<Due, AllocError>
-    ensures { IfOk result (λ due. due ≡ check_due bytes.now) }
-{
-    match admit_with_document(alloc, bytes, KindSet::Four, 0, ROOT) {
-        Ok(admitted) => {
-            let due = checked(alloc, admitted.get().objects);
-            // What was read and admitted goes with the program, which ends once this is printed.
-            mem::forget(admitted);
-            due
-        }
-        Err(error) => refused(alloc, &error),
-    }
-}
-
 /// What `decide` prints for the bytes of an input.
 fn decide(alloc: Global, bytes: &[u8]) -> Result<Due, AllocError>
     ensures { IfOk result (λ due. due ≡ decide_due bytes.now) }
@@ -104,6 +92,28 @@ pub(crate) fn without_journal(alloc: Global, due: Due) -> Answer
     Answer {
         due,
         journal: Journal::empty(alloc),
+        warnings: None,
+    }
+}
+
+/// What `check` answers for the bytes of an input.
+fn check(alloc: Global, bytes: &[u8]) -> Result<Answer, AllocError>
+    ensures due { IfOk result (λ answer. answer.due ≡ check_due bytes.now) }
+    ensures journal { IfOk result (λ answer. answer.journal.history ≡ []) }
+{
+    match admit_with_document(alloc, bytes, KindSet::Four, 0, ROOT) {
+        Ok(admitted) => {
+            let due = checked(alloc, admitted.get().objects);
+            let warnings = said_of(alloc, admitted.get().entries.as_slice(), bytes);
+            // What was read and admitted goes with the program, which ends once this is printed.
+            mem::forget(admitted);
+            Ok(Answer {
+                due: due?,
+                journal: Journal::empty(alloc),
+                warnings,
+            })
+        }
+        Err(error) => Ok(without_journal(alloc, refused(alloc, &error)?)),
     }
 }
 
@@ -115,6 +125,7 @@ fn simulated(alloc: Global, json: bool, bytes: &[u8]) -> Result<Answer, AllocErr
         Ok(journal) => Ok(Answer {
             due: reported(alloc, json, &journal)?,
             journal,
+            warnings: None,
         }),
         Err(error) => Ok(without_journal(alloc, refused(alloc, &error)?)),
     }
@@ -125,7 +136,7 @@ pub fn answer_of(alloc: Global, command: Command, bytes: &[u8]) -> Result<Answer
     ensures { IfOk result (IsAnswer command bytes.now) }
 {
     match command {
-        Command::Check => Ok(without_journal(alloc, check(alloc, bytes)?)),
+        Command::Check => check(alloc, bytes),
         Command::Decide => Ok(without_journal(alloc, decide(alloc, bytes)?)),
         Command::Simulate { json } => simulated(alloc, json, bytes),
     }

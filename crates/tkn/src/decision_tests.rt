@@ -2,7 +2,7 @@
 ghost use Rattle.std.specs.Option.{ForSome};
 ghost use Rattle.tk_verdict.specs.WellFormed.{IsWellFormed};
 
-use crate::tests::list;
+use crate::rows::whole;
 use std::alloc::{AllocError, Global};
 use std::test::Fail;
 use tk_admit::admit;
@@ -11,27 +11,22 @@ use tk_types::{Binding, Facts, Param, Value};
 use tk_verdict::{condition, pipeline_results, ready, verdicts};
 
 // A skipped task, one that ran, and two of `finally`: of them one sees the status of all tasks, one a missing result.
-const RUN: &str =
-    "{'apiVersion': 'tekton.dev/v1', 'kind': 'PipelineRun', 'metadata': {'name': 'r'}, 'spec': {'pipelineSpec': {
-    'results': [{'name': 'o', 'value': 'of $(context.pipelineRun.name)'}],
-    'tasks': [
-        {'name': 'a', 'when': [{'input': 'x', 'operator': 'in', 'values': ['y']}], 'taskSpec': {'results': [{'name': 'r'}], 'steps': [{'command': ['true']}]}},
-        {'name': 'b', 'taskSpec': {'steps': [{'command': ['true']}]}}],
-    'finally': [
-        {'name': 'f', 'params': [{'name': 'status', 'value': '$(tasks.status)'}], 'taskSpec': {'params': [{'name': 'status'}], 'steps': [{'command': ['true']}]}},
-        {'name': 'g', 'params': [{'name': 'r', 'value': '$(tasks.a.results.r)'}], 'taskSpec': {'params': [{'name': 'r'}], 'steps': [{'command': ['true']}]}}]}}}";
+const RUN: &str = r#"{@list, "items": [{@run, "spec": {"pipelineSpec": {
+    "results": [{"name": "o", "value": "of $(context.pipelineRun.name)"}],
+    "tasks": [
+        {"name": "a", "when": [{"input": "x", "operator": "in", "values": ["y"]}], "taskSpec": {"results": [{"name": "r"}], "steps": [{"command": ["true"]}]}},
+        {"name": "b", @step}],
+    "finally": [
+        {"name": "f", "params": [{"name": "status", "value": "$(tasks.status)"}], "taskSpec": {"params": [{"name": "status"}], "steps": [{"command": ["true"]}]}},
+        {"name": "g", "params": [{"name": "r", "value": "$(tasks.a.results.r)"}], "taskSpec": {"params": [{"name": "r"}], "steps": [{"command": ["true"]}]}}]}}},
+    {@outcomes, "spec": {"children": ["#;
 
-const B_RUNS: &str =
-    "{'apiVersion': 'tkn.local/v1', 'kind': 'Outcomes', 'metadata': {'name': 's'}, 'spec': {'children': [
-    {'task': 'b', 'index': 0, 'outcome': 'Running'}]}}";
+const B_RUNS: &str = r#"{"task": "b", "index": 0, "outcome": "Running"}"#;
 
-const B_RAN: &str =
-    "{'apiVersion': 'tkn.local/v1', 'kind': 'Outcomes', 'metadata': {'name': 's'}, 'spec': {'children': [
-    {'task': 'b', 'index': 0, 'outcome': 'Succeeded'}]}}";
+const B_RAN: &str = r#"{"task": "b", "index": 0, "outcome": "Succeeded"}"#;
 
 const ALL_RAN: &str =
-    "{'apiVersion': 'tkn.local/v1', 'kind': 'Outcomes', 'metadata': {'name': 's'}, 'spec': {'children': [
-    {'task': 'b', 'index': 0, 'outcome': 'Succeeded'}, {'task': 'f', 'index': 0, 'outcome': 'Succeeded'}]}}";
+    r#"{"task": "b", "index": 0, "outcome": "Succeeded"}, {"task": "f", "index": 0, "outcome": "Succeeded"}"#;
 
 /// The text of the first of some parameters.
 fn first_param(params: &[Param]) -> &str {
@@ -104,7 +99,7 @@ fn decides(
 #[test]
 fn a_ready_task_of_finally_sees_the_status_of_all(rt: HostRuntime) -> Result<(), Fail> {
     let alloc = rt.alloc();
-    for (outcomes, tasks, reason) in [
+    for (children, tasks, reason) in [
         (B_RUNS, [(0, None), (1, None), (2, None), (3, None)], None),
         (
             B_RAN,
@@ -117,7 +112,10 @@ fn a_ready_task_of_finally_sees_the_status_of_all(rt: HostRuntime) -> Result<(),
             Some("Completed"),
         ),
     ] {
-        let input = list(alloc, &[RUN], outcomes)?;
+        let input = whole(
+            alloc,
+            format!(in alloc; "{RUN}{children}]}}}}]}}")?.as_str(),
+        )?;
         match admit(alloc, input.as_slice(), KindSet::WithOutcomes, 0, "/work") {
             Ok(admitted) => {
                 assert!(rt; decides(alloc, &admitted.outcomes, tasks.as_slice(), reason)?);

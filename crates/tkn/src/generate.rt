@@ -42,6 +42,7 @@ fn simulated(alloc: Global, text: &str) -> Result<Answer, AllocError>
                 text: summary(alloc, &journal)?,
             },
             journal,
+            warnings: None,
         }),
         Err(error) => Ok(without_journal(alloc, refused(alloc, &error)?)),
     }
@@ -70,7 +71,7 @@ fn write_generated<W: Sink>(alloc: Global, wanted: Generation, sink: &mut W) -> 
     ensures memory_front { result.status ≡ 6 → ((sink.new ≡ sink.old) × (result.journal.history ≡ [])) ⊎ PrintsFrontOf (IsGenerated wanted) (W.written sink.old) (W.written sink.new) result.journal.history }
 {
     match generated(alloc, wanted) {
-        Ok(Answer { due, journal }) => print(sink, due, journal),
+        Ok(Answer { due, journal, .. }) => print(sink, due, journal),
         Err(_) => end_with(alloc, 6),
     }
 }

@@ -25,6 +25,8 @@ mod plain;
 mod printing;
 mod remembering;
 #[cfg(test)]
+mod rows;
+#[cfg(test)]
 mod rule_tests;
 mod run_words;
 #[cfg(test)]
@@ -36,7 +38,9 @@ mod tests;
 mod top;
 #[cfg(test)]
 mod top_tests;
+mod unready;
 
+use plain::Ended;
 use remembering::{Heard, Remembering};
 use std::alloc::{AllocError, Global};
 use std::process::ExitCode;
@@ -56,6 +60,8 @@ enum Said {
     Usage(&'static str, &'static str),
     /// What is wrong with the input, and what to do.
     Advice(String),
+    /// What is admitted and can't start.
+    Warnings(String),
 }
 
 /// What standard error says of a status that has nothing to do with what the input says, if anything.
@@ -158,7 +164,11 @@ fn run<T: Wait>(rt: &HostRuntime, wait: &T) -> (u8, Said) {
     };
     let mut input = Heard::new(alloc, ReadSource::new(rt.reader()));
     let mut sink = Remembering::new(alloc, WriteSink::new(io::writer(rt)));
-    let ended = tkn(
+    let Ended {
+        status,
+        journal: _journal,
+        warnings,
+    } = tkn(
         wait,
         alloc,
         words.as_slice(),
@@ -166,10 +176,13 @@ fn run<T: Wait>(rt: &HostRuntime, wait: &T) -> (u8, Said) {
         &mut sink,
         &mut bench,
     );
-    match ended.status {
+    match status {
         2 => (2, Said::Usage(complaint(words.as_slice()), USAGE)),
         3 => (3, advice_of(alloc, sink.front(), input.bytes())),
-        status => (status, Said::Nothing),
+        status => match warnings {
+            Some(warnings) => (status, Said::Warnings(warnings)),
+            None => (status, Said::Nothing),
+        },
     }
 }
 
@@ -182,6 +195,9 @@ fn say(rt: &HostRuntime, said: &Said) {
         }
         Said::Advice(advice) => {
             let _ = eprintln!(rt; "tkn: {advice}");
+        }
+        Said::Warnings(warnings) => {
+            let _ = eprintln!(rt; "{warnings}");
         }
     }
 }

@@ -3,14 +3,14 @@
 ghost use Rattle.std.specs.Prelude.{Some};
 
 use crate::plain::plain;
-use crate::tests::{run, words};
+use crate::rows::{whole, words};
 use std::alloc::Global;
 use std::test::Fail;
 use tk_edge::{CleanSink, CleanSource, MemSink, MemSource, Miss, Sink};
 use tk_types::{Bytes, List};
 
 /// One task, and what is printed of its run.
-const PIPELINE: &str = "{'tasks': [{'name': 'a', 'taskSpec': {'steps': [{'command': ['true']}]}}]}";
+const INPUT: &str = r#"{@run, "spec": {"pipelineSpec": {"tasks": [{"name": "a", @step}]}}}"#;
 
 const TEXT: &str = "pipelinerun r True Succeeded\n  taskrun r-a a 0 Succeeded attempts 1\n";
 
@@ -35,7 +35,7 @@ impl Sink for NarrowSink {
 
 /// The input, with spaces behind it so that it comes in several pieces.
 fn wide(alloc: Global) -> Result<Bytes, Fail> {
-    let mut bytes = Vec::from_slice(alloc, run(alloc, PIPELINE)?.as_slice())?;
+    let mut bytes = Vec::from_slice(alloc, whole(alloc, INPUT)?.as_slice())?;
     for _ in 0..200_000 {
         bytes.push(b' ')?;
     }
@@ -68,7 +68,7 @@ fn each_failed_write_is_told(rt: HostRuntime) -> Result<(), Fail> {
         let mut sink = NarrowSink {
             sink: MemSink::new(alloc, List::from_vec(vec![in alloc; call]?)),
         };
-        let mut source = CleanSource::new(run(alloc, PIPELINE)?);
+        let mut source = CleanSource::new(whole(alloc, INPUT)?);
         let ended = plain(alloc, words.as_slice(), &mut source, &mut sink);
         let front = TEXT.len().min(NARROW * call as usize);
         assert_eq!(rt; ended.status, if call < 5 { 5 } else { 0 });

@@ -14,11 +14,13 @@ use tk_journal::Journal;
 use tk_types::Text;
 
 /// How a command ended: its status, and the journal that its runs came to. It is empty where nothing ran, and where
-/// there was no memory.
+/// there was no memory. What is to be said beside its text of objects that are admitted and can't start, if anything, is for
+/// people, and no clause tells of it.
 #[derive(Drop)]
 pub struct Ended {
     pub status: u8,
     pub journal: Journal,
+    pub warnings: Option<String>,
 }
 
 /// An end without a journal.
@@ -29,6 +31,7 @@ pub(crate) fn end_with(alloc: Global, status: u8) -> Ended
     Ended {
         status,
         journal: Journal::empty(alloc),
+        warnings: None,
     }
 }
 
@@ -63,7 +66,11 @@ fn carry_out<R: Source, W: Sink>(
     ensures sink_failed_front { result.status ≡ 5 → PrintsReadFront command (R.left input.old) (R.ended input.new) (W.written sink.old) (W.written sink.new) result.journal.history }
     ensures memory_front { result.status ≡ 6 → PrintsFront command (R.left input.old) (W.written sink.old) (W.written sink.new) }
 {
-    let Answer { due, journal } = match answered(alloc, command, input) {
+    let Answer {
+        due,
+        journal,
+        warnings,
+    } = match answered(alloc, command, input) {
         Ok(answer) => answer,
         Err(Miss::Failed) => return end_with(alloc, 4),
         Err(Miss::Memory) => return end_with(alloc, 6),
@@ -72,8 +79,13 @@ fn carry_out<R: Source, W: Sink>(
         Ok(()) => Ended {
             status: due.status,
             journal,
+            warnings,
         },
-        Err(Miss::Failed) => Ended { status: 5, journal },
+        Err(Miss::Failed) => Ended {
+            status: 5,
+            journal,
+            warnings: None,
+        },
         Err(Miss::Memory) => end_with(alloc, 6),
     }
 }

@@ -24,8 +24,17 @@ pub(crate) fn print<W: Sink>(sink: &mut W, due: Due, journal: Journal) -> Ended
         Ok(()) => Ended {
             status: due.status,
             journal,
+            warnings: None,
         },
-        Err(Miss::Failed) => Ended { status: 5, journal },
-        Err(Miss::Memory) => Ended { status: 6, journal },
+        Err(Miss::Failed) => Ended {
+            status: 5,
+            journal,
+            warnings: None,
+        },
+        Err(Miss::Memory) => Ended {
+            status: 6,
+            journal,
+            warnings: None,
+        },
     }
 }

@@ -1,43 +1,45 @@
 //! The words of `run`: which are options and asks of it, and what they say.
 
+use crate::rows::words;
 use crate::run_words::run_words;
-use crate::tests::words;
+use std::alloc::{AllocError, Global};
 use std::test::Fail;
 
-/// Words of `run`, and the root and the number of asks where they are options of it.
-const ROWS: [(&str, Option<(bool, &str, usize)>); 14] = [
-    ("run --json", Some((true, "/tmp/tkn", 0))),
-    ("run --root /a", Some((false, "/a", 0))),
-    ("run --root=/a --json", Some((true, "/a", 0))),
-    ("run --json --root /a --", Some((true, "/a", 0))),
-    ("run r=Cancelled@10s", Some((false, "/tmp/tkn", 1))),
-    (
-        "run r=Start@0 --json q=StoppedRunFinally@1m -- t=TaskRunCancelled@5ms",
-        Some((true, "/tmp/tkn", 3)),
-    ),
-    ("run --json --json", None),
-    ("run --root", None),
-    ("run --root=x", None),
-    ("run --root /a --root=/b", None),
-    ("run -j", None),
-    ("run r=Stopped@1s", None),
-    ("run r=Cancelled@soon", None),
-    ("run =Cancelled@1s", None),
-];
+/// Words of `run`, and behind `=> ` whether the report is JSON, the root and the number of asks, where they are words of it.
+const ROWS: &str = "run --json => true /tmp/tkn 0
+run --root /a => false /a 0
+run --root=/a --json => true /a 0
+run --json --root /a -- => true /a 0
+run r=Cancelled@10s => false /tmp/tkn 1
+run r=Start@0 --json q=StoppedRunFinally@1m -- t=TaskRunCancelled@5ms => true /tmp/tkn 3
+run --json --json => usage
+run --root => usage
+run --root=x => usage
+run --root /a --root=/b => usage
+run -j => usage
+run r=Stopped@1s => usage
+run r=Cancelled@soon => usage
+run =Cancelled@1s => usage";
+
+/// What words of `run` say, as a row tells it.
+fn told(alloc: Global, line: &str) -> Result<String, AllocError> {
+    let words = words(alloc, line)?;
+    match run_words(alloc, words.as_slice())? {
+        Some(options) => format!(in alloc;
+            "{} {} {}",
+            options.json,
+            options.root.as_str(),
+            options.asks.len()
+        ),
+        None => String::from_str(alloc, "usage"),
+    }
+}
 
 #[test]
 fn words_of_run_are_read(rt: HostRuntime) -> Result<(), Fail> {
-    let alloc = rt.alloc();
-    for (text, wanted) in ROWS {
-        let words = words(alloc, text)?;
-        match (run_words(alloc, words.as_slice())?, wanted) {
-            (Some(options), Some((json, root, asks))) => {
-                assert_eq!(rt; options.json, json);
-                assert_eq!(rt; options.root.as_str(), root);
-                assert_eq!(rt; options.asks.len(), asks);
-            }
-            (found, wanted) => assert_eq!(rt; found.is_none(), wanted.is_none()),
-        }
+    for row in ROWS.split('\n') {
+        let (line, wanted) = row.split_once(" => ").unwrap_or((row, "no answer"));
+        assert_eq!(rt; told(rt.alloc(), line)?.as_str(), wanted, "of {line}");
     }
     Ok(())
 }

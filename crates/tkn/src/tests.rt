@@ -1,608 +1,506 @@
-//! The rows of `check` and `decide` over sources and sinks in memory.
+//! The rows of `check` and `decide`.
 
-use crate::plain::plain;
-use std::alloc::{AllocError, Global};
+use crate::rows::{answered, rows_hold};
+use std::alloc::Global;
+use std::sync::Wait;
 use std::test::Fail;
-use tk_edge::{CleanSink, CleanSource, MemSink, MemSource};
-use tk_types::{Bytes, List, Text};
+use tk_types::{Bytes, Text};
 
-const A: &str = "{'name': 'a', 'taskSpec': {'steps': [{'command': ['true']}]}}";
+/// Runs whose labels and condition are decided.
+const RUNS: &str = r#"decide
+{@list, "items": [
+    {@run, "spec": {"pipelineSpec": {"tasks": [{"name": "a", @step}, {"name": "b", @step}]}}},
+    {@outcomes, "spec": {"children": [{"task": "a", "index": 0, "outcome": "Succeeded"}, {"task": "b", "index": 0, "outcome": "Succeeded"}]}}]}
+=> 0 pipelinerun r True Succeeded
+  ran a
+  ran b
 
-const A_B: &str = "{'name': 'a', 'taskSpec': {'steps': [{'command': ['true']}]}},
-    {'name': 'b', 'taskSpec': {'steps': [{'command': ['true']}]}}";
+decide
+{@list, "items": [
+    {@run, "spec": {"pipelineSpec": {"tasks": [{"name": "a", @step}, {"name": "b", @step}]}}},
+    {@outcomes, "spec": {"children": [{"task": "a", "index": 0, "outcome": "Succeeded"}, {"task": "b", "index": 0, "outcome": "Failed", "exit": 2}]}}]}
+=> 1 pipelinerun r False Failed
+  ran a
+  ran b
 
-const A_THEN_B: &str = "{'name': 'a', 'taskSpec': {'steps': [{'command': ['true']}]}},
-    {'name': 'b', 'taskSpec': {'steps': [{'command': ['true']}]}, 'runAfter': ['a']}";
+decide
+{@list, "items": [
+    {@run, "spec": {"pipelineSpec": {"tasks": [{"name": "a", @step}, {"name": "b", @step}]}}},
+    {@outcomes, "spec": {"children": [{"task": "a", "index": 0, "outcome": "Succeeded"}]}}]}
+=> 7 pipelinerun r Unknown Running
+  ran a
+  ready b
 
-const CYCLE: &str =
-    "{'name': 'a', 'taskSpec': {'steps': [{'command': ['true']}]}, 'runAfter': ['b']},
-    {'name': 'b', 'taskSpec': {'steps': [{'command': ['true']}]}, 'runAfter': ['a']}";
+decide
+{@list, "items": [
+    {@run, "spec": {"pipelineSpec": {"tasks": [{"name": "a", @step}, {"name": "b", @step, "runAfter": ["a"]}]}}},
+    {@outcomes, "spec": {"children": [{"task": "a", "index": 0, "outcome": "Succeeded"}, {"task": "b", "index": 0, "outcome": "Succeeded"}]}}]}
+=> 0 pipelinerun r True Succeeded
+  ran a
+  ran b
 
-const SUCCEEDED: &str = "{'task': 'a', 'index': 0, 'outcome': 'Succeeded'}";
+decide
+{@list, "items": [
+    {@run, "spec": {"pipelineSpec": {"tasks": [{"name": "a", @step}, {"name": "b", @step, "runAfter": ["a"]}]}}},
+    {@outcomes, "spec": {"children": [{"task": "a", "index": 0, "outcome": "Succeeded"}]}}]}
+=> 7 pipelinerun r Unknown Running
+  ran a
+  ready b
 
-const BOTH: &str = "{'task': 'a', 'index': 0, 'outcome': 'Succeeded'},
-    {'task': 'b', 'index': 0, 'outcome': 'Succeeded'}";
+decide
+{@list, "items": [
+    {@run, "spec": {"pipelineSpec": {"tasks": [{"name": "a", @step}, {"name": "b", @step, "runAfter": ["a"]}]}}},
+    {@outcomes, "spec": {"children": [{"task": "a", "index": 0, "outcome": "Running"}]}}]}
+=> 7 pipelinerun r Unknown Running
+  runs a
+  waits b
 
-const ONE_FAILED: &str = "{'task': 'a', 'index': 0, 'outcome': 'Succeeded'},
-    {'task': 'b', 'index': 0, 'outcome': 'Failed', 'exit': 2}";
+decide
+{@list, "items": [
+    {@run, "spec": {"pipelineSpec": {"tasks": [{"name": "a", @step}, {"name": "b", @step, "runAfter": ["a"]}]}}},
+    {@outcomes, "spec": {"children": [{"task": "a", "index": 0, "outcome": "Failed", "exit": 1}]}}]}
+=> 7 pipelinerun r Unknown Running
+  ran a
+  waits b
 
-const FAILED: &str = "{'task': 'a', 'index': 0, 'outcome': 'Failed', 'exit': 1}";
+decide
+{@list, "items": [
+    {@run, "spec": {"pipelineSpec": {"tasks": [{"name": "a", @step}, {"name": "b", @step, "runAfter": ["a"]}]}}},
+    {@outcomes, "spec": {"stops": ["Failure"], "children": [{"task": "a", "index": 0, "outcome": "Failed", "exit": 1}]}}]}
+=> 1 pipelinerun r False Failed
+  ran a
+  skipped b PipelineRun was stopping
 
-const CANCELLED: &str = "{'task': 'a', 'index': 0, 'outcome': 'Cancelled'}";
+decide
+{@list, "items": [
+    {@run, "spec": {"pipelineSpec": {"tasks": [{"name": "a", @step}]}}},
+    {@outcomes, "spec": {"children": [{"task": "a", "index": 0, "outcome": "Cancelled"}]}}]}
+=> 1 pipelinerun r False Cancelled
+  ran a
 
-const RUNNING: &str = "{'task': 'a', 'index': 0, 'outcome': 'Running'}";
+decide
+{@list, "items": [
+    {@run, "spec": {"pipelineSpec": {"tasks": [{"name": "a", @step, "runAfter": ["b"]}, {"name": "b", @step, "runAfter": ["a"]}]}}},
+    {@outcomes, "spec": {"children": []}}]}
+=> 3 rejected 13 Cycle $.items[0].spec.pipelineSpec.tasks a b
 
-const TWICE: &str = "{'task': 'a', 'index': 0, 'outcome': 'Succeeded'},
-    {'task': 'a', 'index': 0, 'outcome': 'Failed'}";
+decide
+{@list, "items": [
+    {@run, "spec": {"pipelineSpec": {"tasks": [{"name": "a", @step}, {"name": "b", @step}]}}},
+    {@outcomes, "spec": {"children": [{"task": "a", "index": 0, "outcome": "Succeeded"}, {"task": "a", "index": 0, "outcome": "Failed"}]}}]}
+=> 3 rejected 9 Duplicate $.items[1].spec.children[1] a
 
-const UNKNOWN: &str = "{'task': 'c', 'index': 0, 'outcome': 'Succeeded'}";
+decide
+{@list, "items": [
+    {@run, "spec": {"pipelineSpec": {"tasks": [{"name": "a", @step}, {"name": "b", @step}]}}},
+    {@outcomes, "spec": {"children": [{"task": "c", "index": 0, "outcome": "Succeeded"}]}}]}
+=> 3 rejected 12 UnknownTask $.items[1].spec.children[0].task c
 
-/// A text in which `'` stands for `"`.
-fn quoted(alloc: Global, text: &str) -> Result<Bytes, AllocError> {
-    let mut bytes = Vec::new(alloc);
-    for byte in text.as_bytes() {
-        bytes.push(if *byte == b'\'' { b'"' } else { *byte })?;
-    }
-    Ok(Bytes::from_vec(bytes))
-}
+decide
+{@list, "items": [
+    {@run, "spec": {"pipelineSpec": {"tasks": []}}},
+    {@outcomes, "spec": {"children": []}}]}
+=> 3 rejected 5 MissingField $.items[0].spec.pipelineSpec.tasks"#;
 
-/// A run `r` of these tasks with these stops and children.
-fn input(alloc: Global, tasks: &str, stops: &str, children: &str) -> Result<Bytes, AllocError> {
-    let mut text = String::new(alloc);
-    text.push_str(
-        "{'apiVersion': 'v1', 'kind': 'List', 'items': [{'apiVersion': 'tekton.dev/v1', 'kind': 'PipelineRun', 'metadata': {'name': 'r'}, 'spec': {'pipelineSpec': {'tasks': [",
-    )?;
-    text.push_str(tasks)?;
-    text.push_str(
-        "]}}}, {'apiVersion': 'tkn.local/v1', 'kind': 'Outcomes', 'metadata': {'name': 's'}, 'spec': {'stops': [",
-    )?;
-    text.push_str(stops)?;
-    text.push_str("], 'children': [")?;
-    text.push_str(children)?;
-    text.push_str("]}}]}")?;
-    quoted(alloc, text.as_str())
-}
+/// A run behind some stops.
+const STOPS: &str = r#"decide
+{@list, "items": [
+    {@run, "spec": {"pipelineSpec": {"tasks": [{"name": "a", @step}]}}},
+    {@outcomes, "spec": {"stops": ["Failure"]}}]}
+=> 0 pipelinerun r True Completed
+  skipped a PipelineRun was stopping
 
-/// A run `r` of a pipeline.
-pub(crate) fn run(alloc: Global, pipeline: &str) -> Result<Bytes, AllocError> {
-    let mut text = String::new(alloc);
-    text.push_str(
-        "{'apiVersion': 'tekton.dev/v1', 'kind': 'PipelineRun', 'metadata': {'name': 'r'}, 'spec': {'pipelineSpec': ",
-    )?;
-    text.push_str(pipeline)?;
-    text.push_str("}}")?;
-    quoted(alloc, text.as_str())
-}
+decide
+{@list, "items": [
+    {@run, "spec": {"pipelineSpec": {"tasks": [{"name": "a", @step}]}}},
+    {@outcomes, "spec": {"stops": ["StoppedRunFinally"]}}]}
+=> 1 pipelinerun r False Cancelled
+  skipped a PipelineRun was gracefully stopped
 
-/// A list of these objects, but for empty ones, and of one more.
-pub(crate) fn list(alloc: Global, items: &[&str], last: &str) -> Result<Bytes, AllocError> {
-    let mut text = String::from_str(alloc, "{'apiVersion': 'v1', 'kind': 'List', 'items': [")?;
-    let mut between = "";
-    for item in items {
-        if !item.is_empty() {
-            text.push_str(between)?;
-            text.push_str(item)?;
-            between = ", ";
-        }
-    }
-    if !last.is_empty() {
-        text.push_str(between)?;
-        text.push_str(last)?;
-    }
-    text.push_str("]}")?;
-    quoted(alloc, text.as_str())
-}
+decide
+{@list, "items": [
+    {@run, "spec": {"pipelineSpec": {"tasks": [{"name": "a", @step}]}}},
+    {@outcomes, "spec": {"stops": ["CancelledRunFinally"]}}]}
+=> 1 pipelinerun r False Cancelled
+  skipped a PipelineRun was gracefully cancelled
 
-pub(crate) fn bytes(alloc: Global, text: &str) -> Result<Bytes, AllocError> {
-    Ok(Bytes::from_vec(Vec::from_slice(alloc, text.as_bytes())?))
-}
+decide
+{@list, "items": [
+    {@run, "spec": {"pipelineSpec": {"tasks": [{"name": "a", @step}]}}},
+    {@outcomes, "spec": {"stops": ["TasksTimeout"]}}]}
+=> 1 pipelinerun r False Failed
+  skipped a PipelineRun Tasks timeout has been reached
 
-pub(crate) fn words(alloc: Global, text: &str) -> Result<List<Text>, AllocError> {
-    let mut words = List::new(alloc);
-    for word in text.split(' ') {
-        words.push(Text::from_str(alloc, word)?)?;
-    }
-    Ok(words)
-}
+decide
+{@list, "items": [
+    {@run, "spec": {"pipelineSpec": {"tasks": [{"name": "a", @step}]}}},
+    {@outcomes, "spec": {"stops": ["FinallyTimeout"]}}]}
+=> 1 pipelinerun r False Failed
+  skipped a PipelineRun Finally timeout has been reached
 
-/// The status of a command on these bytes, with what it printed.
-pub(crate) fn answered(
-    alloc: Global,
-    word: &str,
-    bytes: Bytes,
-) -> Result<(u8, CleanSink), AllocError> {
-    let words = words(alloc, word)?;
-    let mut sink = CleanSink::new(alloc);
-    let ended = plain(
-        alloc,
-        words.as_slice(),
-        &mut CleanSource::new(bytes),
-        &mut sink,
-    );
-    Ok((ended.status, sink))
-}
+decide
+{@list, "items": [
+    {@run, "spec": {"pipelineSpec": {"tasks": [{"name": "a", @step}]}}},
+    {@outcomes, "spec": {"stops": ["Cancelled"]}}]}
+=> 1 pipelinerun r False Cancelled
+  skipped a PipelineRun was cancelled
 
-/// The status of `decide` on these bytes, with what it printed.
-pub(crate) fn decided(alloc: Global, bytes: Bytes) -> Result<(u8, CleanSink), AllocError> {
-    answered(alloc, "decide", bytes)
-}
+decide
+{@list, "items": [
+    {@run, "spec": {"pipelineSpec": {"tasks": [{"name": "a", @step}]}}},
+    {@outcomes, "spec": {"stops": ["PipelineTimeout"]}}]}
+=> 1 pipelinerun r False PipelineRunTimeout
+  skipped a PipelineRun timeout has been reached
+
+decide
+{@list, "items": [
+    {@run, "spec": {"pipelineSpec": {"tasks": [{"name": "a", @step}]}}},
+    {@outcomes, "spec": {"stops": ["Failure", "TasksTimeout"]}}]}
+=> 1 pipelinerun r False Failed
+  skipped a PipelineRun was stopping
+
+decide
+{@list, "items": [
+    {@run, "spec": {"pipelineSpec": {"tasks": [{"name": "a", @step}]}}},
+    {@outcomes, "spec": {"stops": ["TasksTimeout", "Failure"]}}]}
+=> 3 rejected 11 BadChoice $.items[1].spec.stops[1]
+
+decide
+{@list, "items": [
+    {@run, "spec": {"pipelineSpec": {"tasks": [{"name": "a", @step}]}}},
+    {@outcomes, "spec": {"stops": ["Failure", "Failure"]}}]}
+=> 3 rejected 11 BadChoice $.items[1].spec.stops[1]
+
+decide
+{@list, "items": [
+    {@run, "spec": {"pipelineSpec": {"tasks": [{"name": "a", @step}]}}},
+    {@outcomes, "spec": {"stops": ["Stopped"]}}]}
+=> 3 rejected 11 BadChoice $.items[1].spec.stops[0]"#;
+
+/// Results of a run.
+const RESULTS: &str = r#"decide
+{@list, "items": [
+    {@run, "spec": {"pipelineSpec": {
+        "tasks": [{"name": "a", "taskSpec": {"results": [{"name": "id"}, {"name": "files", "type": "array"}], "steps": [{"script": "true"}]}},
+            {"name": "b", "when": [{"input": "$(tasks.a.results.id)", "operator": "in", "values": ["xyz"]}], "taskSpec": {"steps": [{"script": "true"}]}}],
+        "finally": [{"name": "f", "taskSpec": {"steps": [{"script": "true"}]}}],
+        "results": [{"name": "image", "value": "img-$(tasks.a.results.id)"}, {"name": "files", "value": "$(tasks.a.results.files[*])"}]}}},
+    {@outcomes, "spec": {"children": [{"task": "f", "index": 0, "outcome": "Succeeded"}, {"task": "a", "index": 0, "outcome": "Succeeded", "results": {"id": "abc", "files": ["x", "y"]}}]}}]}
+=> 0 pipelinerun r True Completed
+  ran a
+  skipped b When Expressions evaluated to false
+  ran f
+  result image "img-abc"
+  result files ["x","y"]
+
+decide
+{@list, "items": [
+    {@run, "spec": {"pipelineSpec": {
+        "tasks": [{"name": "a", "taskSpec": {"results": [{"name": "id"}, {"name": "files", "type": "array"}], "steps": [{"script": "true"}]}},
+            {"name": "b", "when": [{"input": "$(tasks.a.results.id)", "operator": "in", "values": ["xyz"]}], "taskSpec": {"steps": [{"script": "true"}]}}],
+        "finally": [{"name": "f", "taskSpec": {"steps": [{"script": "true"}]}}],
+        "results": [{"name": "image", "value": "img-$(tasks.a.results.id)"}, {"name": "files", "value": "$(tasks.a.results.files[*])"}]}}},
+    {@outcomes, "spec": {"children": [{"task": "a", "index": 0, "outcome": "Succeeded", "results": {"id": "abc"}}, {"task": "f", "index": 0, "outcome": "Succeeded"}]}}]}
+=> 0 pipelinerun r True Completed
+  ran a
+  skipped b When Expressions evaluated to false
+  ran f
+  result image "img-abc"
+
+decide
+{@list, "items": [
+    {@run, "spec": {"pipelineSpec": {
+        "tasks": [{"name": "a", "taskSpec": {"results": [{"name": "id"}, {"name": "files", "type": "array"}], "steps": [{"script": "true"}]}},
+            {"name": "b", "when": [{"input": "$(tasks.a.results.id)", "operator": "in", "values": ["xyz"]}], "taskSpec": {"steps": [{"script": "true"}]}}],
+        "finally": [{"name": "f", "taskSpec": {"steps": [{"script": "true"}]}}],
+        "results": [{"name": "image", "value": "img-$(tasks.a.results.id)"}, {"name": "files", "value": "$(tasks.a.results.files[*])"}]}}},
+    {@outcomes, "spec": {"children": [{"task": "a", "index": 0, "outcome": "Succeeded", "results": {"id": "xyz"}}]}}]}
+=> 7 pipelinerun r Unknown Running
+  ran a
+  ready b
+  waits f
+
+decide
+{@list, "items": [
+    {@run, "spec": {"pipelineSpec": {
+        "tasks": [{"name": "a", "taskSpec": {"results": [{"name": "id"}, {"name": "files", "type": "array"}], "steps": [{"script": "true"}]}},
+            {"name": "b", "when": [{"input": "$(tasks.a.results.id)", "operator": "in", "values": ["xyz"]}], "taskSpec": {"steps": [{"script": "true"}]}}],
+        "finally": [{"name": "f", "taskSpec": {"steps": [{"script": "true"}]}}],
+        "results": [{"name": "image", "value": "img-$(tasks.a.results.id)"}, {"name": "files", "value": "$(tasks.a.results.files[*])"}]}}},
+    {@outcomes, "spec": {"children": [{"task": "a", "index": 0, "outcome": "Succeeded", "results": {"id": "abc"}}]}}]}
+=> 7 pipelinerun r Unknown Running
+  ran a
+  skipped b When Expressions evaluated to false
+  ready f"#;
+
+/// `decide` takes one run and its Outcomes.
+const ONE_RUN: &str = r#"decide
+{@list, "items": []}
+=> 3 rejected 5 MissingField $
+
+decide
+{@list, "items": [{@run, "spec": {"pipelineRef": {"name": "p"}}}]}
+=> 3 rejected 5 MissingField $
+
+decide
+{@list, "items": [{@outcomes, "spec": {}}]}
+=> 3 rejected 5 MissingField $
+
+decide
+{@list, "items": [
+    {@run, "spec": {"pipelineRef": {"name": "p"}}},
+    {"apiVersion": "tekton.dev/v1", "kind": "PipelineRun", "metadata": {"name": "q"}, "spec": {"pipelineRef": {"name": "p"}}}]}
+=> 3 rejected 5 MissingField $
+
+decide
+{@list, "items": [
+    {@run, "spec": {"pipelineRef": {"name": "p"}}},
+    {@outcomes, "spec": {"children": [{"task": "a", "index": 0, "outcome": "Lost"}]}}]}
+=> 3 rejected 12 UnknownTask $.items[1].spec.children[0].task a
+
+decide
+{@list, "items": [
+    {@run, "spec": {"pipelineRef": {"name": "p"}}},
+    {@outcomes, "spec": {}}]}
+=> 1 pipelinerun r False CouldntGetPipeline
+
+decide
+{@list, "items": [
+    {@outcomes, "spec": {}},
+    {@run, "spec": {"pipelineRef": {"name": "p"}}}]}
+=> 1 pipelinerun r False CouldntGetPipeline
+
+decide
+{@list, "items": [
+    {@run, "spec": {"pipelineRef": {"name": "p"}}},
+    {@run, "spec": {"pipelineRef": {"name": "p"}}}]}
+=> 3 rejected 9 Duplicate $.items[1] r
+
+decide
+{@list, "items": [
+    {@run, "spec": {"pipelineRef": {"name": "p"}}},
+    {@outcomes, "spec": {}},
+    {"apiVersion": "tekton.dev/v1", "kind": "PipelineRun", "metadata": {"name": "q"}, "spec": {"pipelineRef": {"name": "p"}}}]}
+=> 3 rejected 9 Duplicate $ q
+
+decide
+{@list, "items": [
+    {@run, "spec": {"pipelineRef": {"name": "p"}}},
+    {@outcomes, "spec": {}},
+    {"apiVersion": "tkn.local/v1", "kind": "Outcomes", "metadata": {"name": "t"}, "spec": {}}]}
+=> 3 rejected 9 Duplicate $ t
+
+decide
+{@list, "items": [
+    {@run, "spec": {"pipelineRef": {"name": "p"}}},
+    {@outcomes, "spec": {}},
+    {@outcomes, "spec": {}}]}
+=> 3 rejected 9 Duplicate $.items[2] s"#;
+
+/// Inputs that are checked, and the first fault of those that have one.
+const CHECKED: &str = r#"check
+{@list, "items": []}
+=> 0 ok 0
+
+check
+{"apiVersion":"v1","kind":"List","items":[
+=> 3 rejected 1 BadJson
+
+check
+{"apiVersion": "tekton.dev/v1beta1", "kind": "PipelineRun", "metadata": {"name": "r"}, "spec": {"pipelineSpec": {"tasks": [{"name": "a", @step}]}}}
+=> 3 rejected 3 WrongVersion $.apiVersion
+
+check
+{"apiVersion": "tekton.dev/v1", "kind": "TaskRun", "metadata": {"name": "t"}, "spec": {"taskSpec": {"steps": [{"script": "true"}]}}}
+=> 0 ok 1
+
+check
+{@run, "spec": {"pipelineRef": {"name": "p"}}}
+=> 0 ok 1
+
+check
+{@outcomes, "spec": {}}
+=> 3 rejected 4 WrongKind $.kind
+
+check
+{@list, "items": [
+    {"apiVersion": "tekton.dev/v1", "kind": "PipelineRun", "metadata": {"name": "a"}, "spec": {"pipelineSpec": {"tasks": [{"name": "b-c", @step}]}}},
+    {"apiVersion": "tekton.dev/v1", "kind": "PipelineRun", "metadata": {"name": "a-b"}, "spec": {"pipelineSpec": {"tasks": [{"name": "c", @step}]}}}]}
+=> 3 rejected 20 NameClash $.items[1] $.items[0]
+
+check
+{@list, "items": [
+    {"apiVersion": "tekton.dev/v1", "kind": "Task", "metadata": {"name": "a"}, "spec": {"steps": [{"command": ["true"]}]}},
+    {"apiVersion": "tekton.dev/v1", "kind": "TaskRun", "metadata": {"name": "a"}, "spec": {"taskRef": {"name": "a"}}},
+    {"apiVersion": "tekton.dev/v1", "kind": "Task", "metadata": {"name": "a"}, "spec": {"steps": [{"command": ["false"]}]}}]}
+=> 3 rejected 9 Duplicate $.items[2] a
+
+check
+{@run, "spec": {"timeouts": {"pipeline": "10s", "tasks": "8s", "finally": "3s"}, "pipelineSpec": {"tasks": [{"name": "a", @step}], "finally": [{"name": "f", @step}]}}}
+=> 3 rejected 17 TimeoutsOverrun $.spec.timeouts
+
+check
+{@run, "spec": {"pipelineSpec": {"tasks": [{"name": "a", "runAfter": ["b\nok 1"], @step}]}}}
+=> 3 rejected 12 UnknownTask $.spec.pipelineSpec.tasks[0].runAfter[0] "b\nok 1"
+
+check
+{@run, "spec": {"pipelineSpec": {"tasks": [{"name": "a", @step}]}}}
+=> 0 ok 1
+
+check
+{@run, "spec": {"pipelineSpec": {"tasks": [{"name": "a", @step}], "tsaks": []}}}
+=> 3 rejected 6 UnknownField $.spec.pipelineSpec.tsaks
+
+check
+{@run, "spec": {"pipelineSpec": {"tasks": [{"name": "a", @step, "when": [{"cel": "x"}]}]}}}
+=> 3 rejected 7 Unsupported $.spec.pipelineSpec.tasks[0].when[0].cel
+
+check
+{@run, "spec": {"pipelineSpec": {"tasks": [{"name": "a", @step, "onError": "continue", "retries": 1}]}}}
+=> 3 rejected 11 BadChoice $.spec.pipelineSpec.tasks[0].onError
+
+check
+{@run, "spec": {"pipelineSpec": {"tasks": [{"name": "a", @step, "params": [{"name": "v", "value": "$(tasks.b.results.r)"}]},
+    {"name": "b", "runAfter": ["a"], "taskSpec": {"steps": [{"command": ["true"]}], "results": [{"name": "r"}]}}]}}}
+=> 3 rejected 13 Cycle $.spec.pipelineSpec.tasks a b
+
+check
+{@run, "spec": {"pipelineSpec": {"tasks": [{"name": "t", @step, "matrix": {"params": [{"name": "os", "value": ["linux", "mac"]}]}},
+    {"name": "t-0", @step}]}}}
+=> 3 rejected 20 NameClash $ $
+
+check
+{@run, "spec": {"pipelineSpec": {"tasks": [{"name": "a", "runAfter": ["c"], @step}]}}}
+=> 3 rejected 12 UnknownTask $.spec.pipelineSpec.tasks[0].runAfter[0] c
+
+check
+{@run, "spec": {"pipelineSpec": {"tasks": [{"name": "a", "taskSpec": {"steps": [{"command": ["echo", "x $(params.)"]}]}}]}}}
+=> 3 rejected 14 BadReference $.spec.pipelineSpec.tasks[0].taskSpec.steps[0].command[1] 2
+
+check
+{@run, "spec": {"pipelineSpec": {"tasks": [{"name": "a", "taskSpec": {"steps": [{"command": ["echo", "$(params.x)"]}]}}]}}}
+=> 3 rejected 15 UnknownVariable $.spec.pipelineSpec.tasks[0].taskSpec.steps[0].command[1] $(params.x)
+
+check
+{@run, "spec": {"pipelineSpec": {"tasks": [{"name": "a", "retries": 100, @step,
+    "matrix": {"params": [{"name": "x", "value": ["0", "1", "2", "3", "4", "5", "6", "7", "8", "9", "10", "11", "12", "13", "14", "15"]},
+    {"name": "y", "value": ["0", "1", "2", "3", "4", "5", "6", "7", "8", "9", "10", "11", "12", "13", "14", "15"]}]}},
+    {"name": "b", "retries": 100, @step,
+    "matrix": {"params": [{"name": "x", "value": ["0", "1", "2", "3", "4", "5", "6", "7", "8", "9", "10", "11", "12", "13", "14", "15"]},
+    {"name": "y", "value": ["0", "1", "2", "3", "4", "5", "6", "7", "8", "9", "10", "11", "12", "13", "14", "15"]}]}}]}}}
+=> 3 rejected 21 TooLarge $ 200000 363529
+
+check
+{@run, "spec": {"pipelineSpec": {"tasks": [{"name": "a", @step,
+    "matrix": {"params": [{"name": "x", "value": ["0", "1", "2", "3", "4", "5", "6", "7", "8", "9", "10", "11", "12", "13", "14", "15"]},
+    {"name": "y", "value": ["0", "1", "2", "3", "4", "5", "6", "7", "8", "9", "10", "11", "12", "13", "14", "15", "16"]}]}}]}}}
+=> 3 rejected 21 TooLarge $ 256 272"#;
+
+/// Words that are no command, beside one.
+const OTHER: &str = r#"decide decide
+{
+=> 2
+
+decide run
+{
+=> 2
+
+check check
+{
+=> 2
+
+check --
+{
+=> 2
+
+decide --
+{
+=> 2
+
+decide
+{
+=> 3 rejected 1 BadJson"#;
+
+/// A read or a write that fails, or that comes no more.
+const OUTSIDE: &str = r#"check | read 0
+{
+=> 4
+
+check | read 1
+{
+=> 4
+
+check | read 2
+{
+=> 3 rejected 1 BadJson
+
+check | write 0
+{
+=> 5
+
+check | write 1
+{
+=> 3 rejected 1 BadJson"#;
 
 #[test]
 fn runs_are_decided(rt: HostRuntime) -> Result<(), Fail> {
-    for (tasks, stops, children, status, text) in [
-        (
-            A_B,
-            "",
-            BOTH,
-            0,
-            "pipelinerun r True Succeeded\n  ran a\n  ran b\n",
-        ),
-        (
-            A_B,
-            "",
-            ONE_FAILED,
-            1,
-            "pipelinerun r False Failed\n  ran a\n  ran b\n",
-        ),
-        (
-            A_B,
-            "",
-            SUCCEEDED,
-            7,
-            "pipelinerun r Unknown Running\n  ran a\n  ready b\n",
-        ),
-        (
-            A_THEN_B,
-            "",
-            BOTH,
-            0,
-            "pipelinerun r True Succeeded\n  ran a\n  ran b\n",
-        ),
-        (
-            A_THEN_B,
-            "",
-            SUCCEEDED,
-            7,
-            "pipelinerun r Unknown Running\n  ran a\n  ready b\n",
-        ),
-        (
-            A_THEN_B,
-            "",
-            RUNNING,
-            7,
-            "pipelinerun r Unknown Running\n  runs a\n  waits b\n",
-        ),
-        (
-            A_THEN_B,
-            "",
-            FAILED,
-            7,
-            "pipelinerun r Unknown Running\n  ran a\n  waits b\n",
-        ),
-        (
-            A_THEN_B,
-            "'Failure'",
-            FAILED,
-            1,
-            "pipelinerun r False Failed\n  ran a\n  skipped b PipelineRun was stopping\n",
-        ),
-        (
-            A,
-            "",
-            CANCELLED,
-            1,
-            "pipelinerun r False Cancelled\n  ran a\n",
-        ),
-        (
-            CYCLE,
-            "",
-            "",
-            3,
-            "rejected 13 Cycle $.items[0].spec.pipelineSpec.tasks a b\n",
-        ),
-        (
-            A_B,
-            "",
-            TWICE,
-            3,
-            "rejected 9 Duplicate $.items[1].spec.children[1] a\n",
-        ),
-        (
-            A_B,
-            "",
-            UNKNOWN,
-            3,
-            "rejected 12 UnknownTask $.items[1].spec.children[0].task c\n",
-        ),
-        (
-            "",
-            "",
-            "",
-            3,
-            "rejected 5 MissingField $.items[0].spec.pipelineSpec.tasks\n",
-        ),
-    ] {
-        let (given, sink) = decided(rt.alloc(), input(rt.alloc(), tasks, stops, children)?)?;
-        assert_eq!(rt; sink.bytes(), text.as_bytes());
-        assert_eq!(rt; given, status);
-    }
-    Ok(())
+    rows_hold(&rt, rt.alloc(), RUNS)
 }
 
 #[test]
 fn stops_are_decided(rt: HostRuntime) -> Result<(), Fail> {
-    for (stops, status, text) in [
-        (
-            "'Failure'",
-            0,
-            "True Completed\n  skipped a PipelineRun was stopping\n",
-        ),
-        (
-            "'StoppedRunFinally'",
-            1,
-            "False Cancelled\n  skipped a PipelineRun was gracefully stopped\n",
-        ),
-        (
-            "'CancelledRunFinally'",
-            1,
-            "False Cancelled\n  skipped a PipelineRun was gracefully cancelled\n",
-        ),
-        (
-            "'TasksTimeout'",
-            1,
-            "False Failed\n  skipped a PipelineRun Tasks timeout has been reached\n",
-        ),
-        (
-            "'FinallyTimeout'",
-            1,
-            "False Failed\n  skipped a PipelineRun Finally timeout has been reached\n",
-        ),
-        (
-            "'Cancelled'",
-            1,
-            "False Cancelled\n  skipped a PipelineRun was cancelled\n",
-        ),
-        (
-            "'PipelineTimeout'",
-            1,
-            "False PipelineRunTimeout\n  skipped a PipelineRun timeout has been reached\n",
-        ),
-        (
-            "'Failure', 'TasksTimeout'",
-            1,
-            "False Failed\n  skipped a PipelineRun was stopping\n",
-        ),
-    ] {
-        let (given, sink) = decided(rt.alloc(), input(rt.alloc(), A, stops, "")?)?;
-        let text = format!(in rt.alloc(); "pipelinerun r {text}")?;
-        assert_eq!(rt; sink.bytes(), text.as_str().as_bytes());
-        assert_eq!(rt; given, status);
-    }
-    for (stops, place) in [
-        ("'TasksTimeout', 'Failure'", "1"),
-        ("'Failure', 'Failure'", "1"),
-        ("'Stopped'", "0"),
-    ] {
-        let (given, sink) = decided(rt.alloc(), input(rt.alloc(), A, stops, "")?)?;
-        let text = format!(in rt.alloc();
-            "rejected 11 BadChoice $.items[1].spec.stops[{place}]\n"
-        )?;
-        assert_eq!(rt; sink.bytes(), text.as_str().as_bytes());
-        assert_eq!(rt; given, 3);
-    }
-    Ok(())
+    rows_hold(&rt, rt.alloc(), STOPS)
 }
 
 #[test]
 fn results_are_printed(rt: HostRuntime) -> Result<(), Fail> {
-    let alloc = rt.alloc();
-    for (children, status, text) in [
-        (
-            "{'task': 'f', 'index': 0, 'outcome': 'Succeeded'}, {'task': 'a', 'index': 0, 'outcome': 'Succeeded', 'results': {'id': 'abc', 'files': ['x', 'y']}}",
-            0,
-            "pipelinerun r True Completed\n  ran a\n  skipped b When Expressions evaluated to false\n  ran f\n  result image 'img-abc'\n  result files ['x','y']\n",
-        ),
-        (
-            "{'task': 'a', 'index': 0, 'outcome': 'Succeeded', 'results': {'id': 'abc'}}, {'task': 'f', 'index': 0, 'outcome': 'Succeeded'}",
-            0,
-            "pipelinerun r True Completed\n  ran a\n  skipped b When Expressions evaluated to false\n  ran f\n  result image 'img-abc'\n",
-        ),
-        (
-            "{'task': 'a', 'index': 0, 'outcome': 'Succeeded', 'results': {'id': 'xyz'}}",
-            7,
-            "pipelinerun r Unknown Running\n  ran a\n  ready b\n  waits f\n",
-        ),
-        (
-            "{'task': 'a', 'index': 0, 'outcome': 'Succeeded', 'results': {'id': 'abc'}}",
-            7,
-            "pipelinerun r Unknown Running\n  ran a\n  skipped b When Expressions evaluated to false\n  ready f\n",
-        ),
-    ] {
-        let mut input = String::from_str(
-            alloc,
-            "{'apiVersion': 'v1', 'kind': 'List', 'items': [{'apiVersion': 'tekton.dev/v1', 'kind': 'PipelineRun', 'metadata': {'name': 'r'}, 'spec': {'pipelineSpec': {
-                'tasks': [{'name': 'a', 'taskSpec': {'results': [{'name': 'id'}, {'name': 'files', 'type': 'array'}], 'steps': [{'script': 'true'}]}},
-                    {'name': 'b', 'when': [{'input': '$(tasks.a.results.id)', 'operator': 'in', 'values': ['xyz']}], 'taskSpec': {'steps': [{'script': 'true'}]}}],
-                'finally': [{'name': 'f', 'taskSpec': {'steps': [{'script': 'true'}]}}],
-                'results': [{'name': 'image', 'value': 'img-$(tasks.a.results.id)'}, {'name': 'files', 'value': '$(tasks.a.results.files[*])'}]}}},
-            {'apiVersion': 'tkn.local/v1', 'kind': 'Outcomes', 'metadata': {'name': 's'}, 'spec': {'children': [",
-        )?;
-        input.push_str(children)?;
-        input.push_str("]}}]}")?;
-        let (given, sink) = decided(alloc, quoted(alloc, input.as_str())?)?;
-        assert_eq!(rt; sink.bytes(), quoted(alloc, text)?.as_slice());
-        assert_eq!(rt; given, status);
-    }
-    Ok(())
+    rows_hold(&rt, rt.alloc(), RESULTS)
 }
-
-const RUN: &str =
-    "{'apiVersion': 'tekton.dev/v1', 'kind': 'PipelineRun', 'metadata': {'name': 'r'}, 'spec': {'pipelineRef': {'name': 'p'}}}";
-
-const OTHER_RUN: &str =
-    "{'apiVersion': 'tekton.dev/v1', 'kind': 'PipelineRun', 'metadata': {'name': 'q'}, 'spec': {'pipelineRef': {'name': 'p'}}}";
-
-pub(crate) const OUTCOMES: &str =
-    "{'apiVersion': 'tkn.local/v1', 'kind': 'Outcomes', 'metadata': {'name': 's'}, 'spec': {}}";
-
-const OTHER_OUTCOMES: &str =
-    "{'apiVersion': 'tkn.local/v1', 'kind': 'Outcomes', 'metadata': {'name': 't'}, 'spec': {}}";
-
-const CHILD: &str =
-    "{'apiVersion': 'tkn.local/v1', 'kind': 'Outcomes', 'metadata': {'name': 's'}, 'spec': {'children': [{'task': 'a', 'index': 0, 'outcome': 'Lost'}]}}";
 
 #[test]
 fn one_run_and_its_outcomes_are_decided(rt: HostRuntime) -> Result<(), Fail> {
-    let alloc = rt.alloc();
-    for (items, status, text) in [
-        (["", ""], 3, "rejected 5 MissingField $\n"),
-        ([RUN, ""], 3, "rejected 5 MissingField $\n"),
-        (["", OUTCOMES], 3, "rejected 5 MissingField $\n"),
-        ([RUN, OTHER_RUN], 3, "rejected 5 MissingField $\n"),
-        (
-            [RUN, CHILD],
-            3,
-            "rejected 12 UnknownTask $.items[1].spec.children[0].task a\n",
-        ),
-        (
-            [RUN, OUTCOMES],
-            1,
-            "pipelinerun r False CouldntGetPipeline\n",
-        ),
-        (
-            [OUTCOMES, RUN],
-            1,
-            "pipelinerun r False CouldntGetPipeline\n",
-        ),
-        ([RUN, RUN], 3, "rejected 9 Duplicate $.items[1] r\n"),
-    ] {
-        let (given, sink) = decided(alloc, list(alloc, &items, "")?)?;
-        assert_eq!(rt; sink.bytes(), text.as_bytes());
-        assert_eq!(rt; given, status);
-    }
-    for (last, text) in [
-        (OTHER_RUN, "rejected 9 Duplicate $ q\n"),
-        (OTHER_OUTCOMES, "rejected 9 Duplicate $ t\n"),
-        (OUTCOMES, "rejected 9 Duplicate $.items[2] s\n"),
-    ] {
-        let (given, sink) = decided(alloc, list(alloc, &[RUN, OUTCOMES], last)?)?;
-        assert_eq!(rt; sink.bytes(), text.as_bytes());
-        assert_eq!(rt; given, 3);
-    }
-    Ok(())
+    rows_hold(&rt, rt.alloc(), ONE_RUN)
 }
 
 #[test]
 fn inputs_are_checked(rt: HostRuntime) -> Result<(), Fail> {
+    rows_hold(&rt, rt.alloc(), CHECKED)
+}
+
+#[test]
+fn other_words_are_usage(rt: HostRuntime) -> Result<(), Fail> {
+    rows_hold(&rt, rt.alloc(), OTHER)
+}
+
+#[test]
+fn what_fails_outside_is_told(rt: HostRuntime) -> Result<(), Fail> {
+    rows_hold(&rt, rt.alloc(), OUTSIDE)
+}
+
+#[test]
+fn no_word_is_usage(rt: HostRuntime) -> Result<(), Fail> {
     let alloc = rt.alloc();
-    for (text, status, line) in [
-        (
-            "{'apiVersion': 'v1', 'kind': 'List', 'items': []}",
-            0,
-            "ok 0\n",
-        ),
-        (
-            "{'apiVersion':'v1','kind':'List','items':[",
-            3,
-            "rejected 1 BadJson\n",
-        ),
-        (
-            "{'apiVersion': 'tekton.dev/v1beta1', 'kind': 'PipelineRun', 'metadata': {'name': 'r'}, 'spec': {'pipelineSpec': {'tasks': [{'name': 'a', 'taskSpec': {'steps': [{'command': ['true']}]}}]}}}",
-            3,
-            "rejected 3 WrongVersion $.apiVersion\n",
-        ),
-        (
-            "{'apiVersion': 'tekton.dev/v1', 'kind': 'TaskRun', 'metadata': {'name': 't'}, 'spec': {'taskSpec': {'steps': [{'script': 'true'}]}}}",
-            0,
-            "ok 1\n",
-        ),
-        (
-            "{'apiVersion': 'tekton.dev/v1', 'kind': 'PipelineRun', 'metadata': {'name': 'r'}, 'spec': {'pipelineRef': {'name': 'p'}}}",
-            0,
-            "ok 1\n",
-        ),
-        (
-            "{'apiVersion': 'tkn.local/v1', 'kind': 'Outcomes', 'metadata': {'name': 's'}, 'spec': {}}",
-            3,
-            "rejected 4 WrongKind $.kind\n",
-        ),
-        (
-            "{'apiVersion': 'v1', 'kind': 'List', 'items': [
-                {'apiVersion': 'tekton.dev/v1', 'kind': 'PipelineRun', 'metadata': {'name': 'a'}, 'spec': {'pipelineSpec': {'tasks': [{'name': 'b-c', 'taskSpec': {'steps': [{'command': ['true']}]}}]}}},
-                {'apiVersion': 'tekton.dev/v1', 'kind': 'PipelineRun', 'metadata': {'name': 'a-b'}, 'spec': {'pipelineSpec': {'tasks': [{'name': 'c', 'taskSpec': {'steps': [{'command': ['true']}]}}]}}}]}",
-            3,
-            "rejected 20 NameClash $.items[1] $.items[0]\n",
-        ),
-        (
-            "{'apiVersion': 'v1', 'kind': 'List', 'items': [
-                {'apiVersion': 'tekton.dev/v1', 'kind': 'Task', 'metadata': {'name': 'a'}, 'spec': {'steps': [{'command': ['true']}]}},
-                {'apiVersion': 'tekton.dev/v1', 'kind': 'TaskRun', 'metadata': {'name': 'a'}, 'spec': {'taskRef': {'name': 'a'}}},
-                {'apiVersion': 'tekton.dev/v1', 'kind': 'Task', 'metadata': {'name': 'a'}, 'spec': {'steps': [{'command': ['false']}]}}]}",
-            3,
-            "rejected 9 Duplicate $.items[2] a\n",
-        ),
-        (
-            "{'apiVersion': 'tekton.dev/v1', 'kind': 'PipelineRun', 'metadata': {'name': 'r'}, 'spec': {'timeouts': {'pipeline': '10s', 'tasks': '8s', 'finally': '3s'}, 'pipelineSpec': {'tasks': [{'name': 'a', 'taskSpec': {'steps': [{'command': ['true']}]}}], 'finally': [{'name': 'f', 'taskSpec': {'steps': [{'command': ['true']}]}}]}}}",
-            3,
-            "rejected 17 TimeoutsOverrun $.spec.timeouts\n",
-        ),
-        (
-            "{'apiVersion': 'tekton.dev/v1', 'kind': 'PipelineRun', 'metadata': {'name': 'r'}, 'spec': {'pipelineSpec': {'tasks': [{'name': 'a', 'runAfter': ['b\\nok 1'], 'taskSpec': {'steps': [{'command': ['true']}]}}]}}}",
-            3,
-            "rejected 12 UnknownTask $.spec.pipelineSpec.tasks[0].runAfter[0] \"b\\nok 1\"\n",
-        ),
-    ] {
-        let (given, sink) = answered(alloc, "check", quoted(alloc, text)?)?;
-        assert_eq!(rt; sink.bytes(), line.as_bytes());
-        assert_eq!(rt; given, status);
+    let empty = [Text::new(alloc)];
+    for words in [&[], empty.as_slice()] {
+        let told = answered(&rt, alloc, words, "", Bytes::from_vec(Vec::new(alloc)))?;
+        assert_eq!(rt; told.as_str(), "2");
     }
     Ok(())
 }
 
-#[test]
-fn pipelines_are_checked(rt: HostRuntime) -> Result<(), Fail> {
-    let alloc = rt.alloc();
-    for (pipeline, status, line) in [
-        (
-            "{'tasks': [{'name': 'a', 'taskSpec': {'steps': [{'command': ['true']}]}}]}",
-            0,
-            "ok 1\n",
-        ),
-        (
-            "{'tasks': [{'name': 'a', 'taskSpec': {'steps': [{'command': ['true']}]}}], 'tsaks': []}",
-            3,
-            "rejected 6 UnknownField $.spec.pipelineSpec.tsaks\n",
-        ),
-        (
-            "{'tasks': [{'name': 'a', 'taskSpec': {'steps': [{'command': ['true']}]}, 'when': [{'cel': 'x'}]}]}",
-            3,
-            "rejected 7 Unsupported $.spec.pipelineSpec.tasks[0].when[0].cel\n",
-        ),
-        (
-            "{'tasks': [{'name': 'a', 'taskSpec': {'steps': [{'command': ['true']}]}, 'onError': 'continue', 'retries': 1}]}",
-            3,
-            "rejected 11 BadChoice $.spec.pipelineSpec.tasks[0].onError\n",
-        ),
-        (
-            "{'tasks': [{'name': 'a', 'taskSpec': {'steps': [{'command': ['true']}]}, 'params': [{'name': 'v', 'value': '$(tasks.b.results.r)'}]},
-                {'name': 'b', 'runAfter': ['a'], 'taskSpec': {'steps': [{'command': ['true']}], 'results': [{'name': 'r'}]}}]}",
-            3,
-            "rejected 13 Cycle $.spec.pipelineSpec.tasks a b\n",
-        ),
-        (
-            "{'tasks': [{'name': 't', 'taskSpec': {'steps': [{'command': ['true']}]}, 'matrix': {'params': [{'name': 'os', 'value': ['linux', 'mac']}]}},
-                {'name': 't-0', 'taskSpec': {'steps': [{'command': ['true']}]}}]}",
-            3,
-            "rejected 20 NameClash $ $\n",
-        ),
-        (
-            "{'tasks': [{'name': 'a', 'runAfter': ['c'], 'taskSpec': {'steps': [{'command': ['true']}]}}]}",
-            3,
-            "rejected 12 UnknownTask $.spec.pipelineSpec.tasks[0].runAfter[0] c\n",
-        ),
-        (
-            "{'tasks': [{'name': 'a', 'taskSpec': {'steps': [{'command': ['echo', 'x $(params.)']}]}}]}",
-            3,
-            "rejected 14 BadReference $.spec.pipelineSpec.tasks[0].taskSpec.steps[0].command[1] 2\n",
-        ),
-        (
-            "{'tasks': [{'name': 'a', 'taskSpec': {'steps': [{'command': ['echo', '$(params.x)']}]}}]}",
-            3,
-            "rejected 15 UnknownVariable $.spec.pipelineSpec.tasks[0].taskSpec.steps[0].command[1] $(params.x)\n",
-        ),
-        (
-            "{'tasks': [{'name': 'a', 'retries': 100, 'taskSpec': {'steps': [{'command': ['true']}]},
-                'matrix': {'params': [{'name': 'x', 'value': ['0', '1', '2', '3', '4', '5', '6', '7', '8', '9', '10', '11', '12', '13', '14', '15']},
-                    {'name': 'y', 'value': ['0', '1', '2', '3', '4', '5', '6', '7', '8', '9', '10', '11', '12', '13', '14', '15']}]}},
-                {'name': 'b', 'retries': 100, 'taskSpec': {'steps': [{'command': ['true']}]},
-                'matrix': {'params': [{'name': 'x', 'value': ['0', '1', '2', '3', '4', '5', '6', '7', '8', '9', '10', '11', '12', '13', '14', '15']},
-                    {'name': 'y', 'value': ['0', '1', '2', '3', '4', '5', '6', '7', '8', '9', '10', '11', '12', '13', '14', '15']}]}}]}",
-            3,
-            "rejected 21 TooLarge $ 200000 363529\n",
-        ),
-        (
-            "{'tasks': [{'name': 'a', 'taskSpec': {'steps': [{'command': ['true']}]},
-                'matrix': {'params': [{'name': 'x', 'value': ['0', '1', '2', '3', '4', '5', '6', '7', '8', '9', '10', '11', '12', '13', '14', '15']},
-                    {'name': 'y', 'value': ['0', '1', '2', '3', '4', '5', '6', '7', '8', '9', '10', '11', '12', '13', '14', '15', '16']}]}}]}",
-            3,
-            "rejected 21 TooLarge $ 256 272\n",
-        ),
-    ] {
-        let (given, sink) = answered(alloc, "check", run(alloc, pipeline)?)?;
-        assert_eq!(rt; sink.bytes(), line.as_bytes());
-        assert_eq!(rt; given, status);
-    }
-    Ok(())
-}
-
-#[test]
-fn other_words_and_inputs_are_refused(rt: HostRuntime) -> Result<(), Fail> {
-    let alloc = rt.alloc();
-    let (given, sink) = decided(alloc, bytes(alloc, "{")?)?;
-    assert_eq!(rt; sink.bytes(), b"rejected 1 BadJson\n".as_slice());
-    assert_eq!(rt; given, 3);
-    for text in [
-        "run",
-        "decide decide",
-        "decide run",
-        "check check",
-        "check --",
-        "decide --",
-        "",
-    ] {
-        let mut sink = CleanSink::new(alloc);
-        let words = words(alloc, text)?;
-        let ended = plain(
-            alloc,
-            words.as_slice(),
-            &mut CleanSource::new(bytes(alloc, "{")?),
-            &mut sink,
-        );
-        assert_eq!(rt; ended.status, 2);
-        assert_eq!(rt; sink.bytes().len(), 0);
-    }
-    let mut sink = CleanSink::new(alloc);
-    let ended = plain(
-        alloc,
-        &[],
-        &mut CleanSource::new(bytes(alloc, "{")?),
-        &mut sink,
-    );
-    assert_eq!(rt; ended.status, 2);
-    Ok(())
+/// What `decide` answers for so many spaces.
+fn told_of_spaces<T: Wait>(rt: &T, alloc: Global, count: usize) -> Result<String, Fail> {
+    let spaces = Vec::from_elem(alloc, b' ', count)?;
+    let words = [Text::from_str(alloc, "decide")?];
+    Ok(answered(rt, alloc, words.as_slice(), "", Bytes::from_vec(spaces))?)
 }
 
 #[test]
 fn an_input_may_not_be_too_long(rt: HostRuntime) -> Result<(), Fail> {
     let alloc = rt.alloc();
-    let spaces = Vec::from_elem(alloc, b' ', 8_388_609)?;
-    let (given, sink) = decided(alloc, Bytes::from_vec(spaces))?;
-    assert_eq!(rt; sink.bytes(), b"rejected 22 TooLong\n".as_slice());
-    assert_eq!(rt; given, 3);
-    let spaces = Vec::from_elem(alloc, b' ', 8_388_608)?;
-    let (given, sink) = decided(alloc, Bytes::from_vec(spaces))?;
-    assert_eq!(rt; sink.bytes(), b"rejected 1 BadJson\n".as_slice());
-    assert_eq!(rt; given, 3);
-    Ok(())
-}
-
-#[test]
-fn what_fails_outside_is_told(rt: HostRuntime) -> Result<(), Fail> {
-    let alloc = rt.alloc();
-    let words = words(alloc, "check")?;
-    for (call, status, text) in [(0, 4, ""), (1, 4, ""), (2, 3, "rejected 1 BadJson\n")] {
-        let mut source = MemSource::new(bytes(alloc, "{")?, List::from_vec(vec![in alloc; call]?));
-        let mut sink = CleanSink::new(alloc);
-        let ended = plain(alloc, words.as_slice(), &mut source, &mut sink);
-        assert_eq!(rt; ended.status, status);
-        assert_eq!(rt; sink.bytes(), text.as_bytes());
-    }
-    for (call, status, text) in [(0, 5, ""), (1, 3, "rejected 1 BadJson\n")] {
-        let mut sink = MemSink::new(alloc, List::from_vec(vec![in alloc; call]?));
-        let mut source = CleanSource::new(bytes(alloc, "{")?);
-        let ended = plain(alloc, words.as_slice(), &mut source, &mut sink);
-        assert_eq!(rt; ended.status, status);
-        assert_eq!(rt; sink.bytes(), text.as_bytes());
-    }
+    let told = told_of_spaces(&rt, alloc, 8_388_609)?;
+    assert_eq!(rt; told.as_str(), "3 rejected 22 TooLong");
+    let told = told_of_spaces(&rt, alloc, 8_388_608)?;
+    assert_eq!(rt; told.as_str(), "3 rejected 1 BadJson");
     Ok(())
 }

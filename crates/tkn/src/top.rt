@@ -66,7 +66,11 @@ fn run_answer<T: Wait, K: Clock, H: Host, G: Gate>(
     let due = due_of(alloc, options.json, &ran);
     let Ran { journal, .. } = ran;
     match due {
-        Ok(due) => Ok(Answer { due, journal }),
+        Ok(due) => Ok(Answer {
+            due,
+            journal,
+            warnings: None,
+        }),
         Err(_) => Err(journal),
     }
 }
@@ -126,9 +130,13 @@ fn run_input<T: Wait, R: Source, W: Sink, K: Clock, H: Host, G: Gate>(
     ensures memory { result.status ≡ 6 → IsCutShort (sink.new ≡ sink.old) (RunsSoFarOf G.answers K.readings K.last H.told H.killed H.faults options.now (R.left input.old) bench.old bench.new result.journal.history) (PrintsFrontOf (IsRunDue G.answers K.readings K.last H.told H.killed H.faults options.now (R.left input.old) (R.ended input.new) bench.old bench.new) (W.written sink.old) (W.written sink.new) result.journal.history) }
 {
     match read_and_run(rt, alloc, options, input, bench) {
-        Ok(Answer { due, journal }) => print(sink, due, journal),
+        Ok(Answer { due, journal, .. }) => print(sink, due, journal),
         Err(Unrun::Failed) => end_with(alloc, 4),
-        Err(Unrun::Memory(journal)) => Ended { status: 6, journal },
+        Err(Unrun::Memory(journal)) => Ended {
+            status: 6,
+            journal,
+            warnings: None,
+        },
     }
 }
 

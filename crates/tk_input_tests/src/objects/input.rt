@@ -1,43 +1,23 @@
 //! What an input is, what goes first in it, and whole inputs.
 
-use crate::objects::{reading, told};
+use crate::objects::{reading, texts_hold, told};
 use std::alloc::{AllocError, Global};
 use std::test::Fail;
 use tk_manifest::{KindSet, read_objects};
 use tk_types::{Item, ItemObject, Text};
 
+/// Texts that are no input, the first of them empty, and one that is.
+const TEXTS: &str = r#" => rejected 1 BadJson
+{"apiVersion":"v1","kind":"List","items":[ => rejected 1 BadJson
+{"apiVersion":"v1","kind":"List","items":[]} => read
+{"apiVersion":"v1","kind":"List","items":[]} x => rejected 1 BadJson
+{"apiVersion":"v1","kind":"\ud800","items":[]} => rejected 1 BadJson
+{"apiVersion":"v1","kind":"List","items":[1e999]} => rejected 1 BadJson
+[] => rejected 2 WrongShape $"#;
+
 #[test]
 fn an_input_is_a_text_of_json(rt: HostRuntime) -> Result<(), Fail> {
-    let alloc = rt.alloc();
-    let rows = [
-        ("", "rejected 1 BadJson\n"),
-        (
-            "{'apiVersion':'v1','kind':'List','items':[",
-            "rejected 1 BadJson\n",
-        ),
-        ("{'apiVersion':'v1','kind':'List','items':[]}", "read\n"),
-        (
-            "{'apiVersion':'v1','kind':'List','items':[]} x",
-            "rejected 1 BadJson\n",
-        ),
-        (
-            "{'apiVersion':'v1','kind':'\\ud800','items':[]}",
-            "rejected 1 BadJson\n",
-        ),
-        (
-            "{'apiVersion':'v1','kind':'List','items':[1e999]}",
-            "rejected 1 BadJson\n",
-        ),
-        ("[]", "rejected 2 WrongShape $\n"),
-    ];
-    for (text, line) in rows {
-        assert_eq!(rt;
-            reading(alloc, KindSet::Four, text)?.as_str(),
-            line,
-            "{text}"
-        );
-    }
-    Ok(())
+    texts_hold(&rt, rt.alloc(), KindSet::Four, "@", TEXTS)
 }
 
 /// What is told of bytes that repeat one, and then another.
@@ -86,130 +66,54 @@ fn bytes_are_utf_8(rt: HostRuntime) -> Result<(), Fail> {
     Ok(())
 }
 
+/// Objects with a fault in their version, their kind or their fields.
+const FIRST: &str = r#"{"other": 1} => rejected 5 MissingField $.apiVersion
+{"apiVersion": 1} => rejected 5 MissingField $.kind
+{"apiVersion": 1, "kind": null} => rejected 2 WrongShape $.apiVersion
+{"apiVersion": "", "kind": null} => rejected 2 WrongShape $.kind
+{"apiVersion": "", "kind": "task"} => rejected 4 WrongKind $.kind
+{"apiVersion": "v1", "kind": "Scenario"} => rejected 4 WrongKind $.kind
+{"apiVersion": "tekton.dev/v1beta1", "kind": "Task", "Spec": {}} => rejected 3 WrongVersion $.apiVersion
+{"apiVersion": "tkn.local/v1", "kind": "Task"} => rejected 3 WrongVersion $.apiVersion
+{"apiVersion": "tekton.dev/v1", "kind": "Outcomes"} => rejected 3 WrongVersion $.apiVersion
+{"apiVersion": "tekton.dev/v1", "kind": "List"} => rejected 3 WrongVersion $.apiVersion
+{"apiVersion": "tekton.dev/v1", "kind": "Task", "Spec": {}} => rejected 6 UnknownField $.Spec
+{"apiVersion": "tekton.dev/v1", "kind": "Task"} => rejected 5 MissingField $.metadata"#;
+
 #[test]
 fn version_and_kind_go_first(rt: HostRuntime) -> Result<(), Fail> {
-    let alloc = rt.alloc();
-    let rows = [
-        ("{'other': 1}", "rejected 5 MissingField $.apiVersion\n"),
-        ("{'apiVersion': 1}", "rejected 5 MissingField $.kind\n"),
-        (
-            "{'apiVersion': 1, 'kind': null}",
-            "rejected 2 WrongShape $.apiVersion\n",
-        ),
-        (
-            "{'apiVersion': '', 'kind': null}",
-            "rejected 2 WrongShape $.kind\n",
-        ),
-        (
-            "{'apiVersion': '', 'kind': 'task'}",
-            "rejected 4 WrongKind $.kind\n",
-        ),
-        (
-            "{'apiVersion': 'v1', 'kind': 'Scenario'}",
-            "rejected 4 WrongKind $.kind\n",
-        ),
-        (
-            "{'apiVersion': 'tekton.dev/v1beta1', 'kind': 'Task', 'Spec': {}}",
-            "rejected 3 WrongVersion $.apiVersion\n",
-        ),
-        (
-            "{'apiVersion': 'tkn.local/v1', 'kind': 'Task'}",
-            "rejected 3 WrongVersion $.apiVersion\n",
-        ),
-        (
-            "{'apiVersion': 'tekton.dev/v1', 'kind': 'Outcomes'}",
-            "rejected 3 WrongVersion $.apiVersion\n",
-        ),
-        (
-            "{'apiVersion': 'tekton.dev/v1', 'kind': 'List'}",
-            "rejected 3 WrongVersion $.apiVersion\n",
-        ),
-        (
-            "{'apiVersion': 'tekton.dev/v1', 'kind': 'Task', 'Spec': {}}",
-            "rejected 6 UnknownField $.Spec\n",
-        ),
-        (
-            "{'apiVersion': 'tekton.dev/v1', 'kind': 'Task'}",
-            "rejected 5 MissingField $.metadata\n",
-        ),
-    ];
-    for (text, line) in rows {
-        assert_eq!(rt;
-            reading(alloc, KindSet::WithOutcomes, text)?.as_str(),
-            line,
-            "{text}"
-        );
-    }
-    Ok(())
+    texts_hold(&rt, rt.alloc(), KindSet::WithOutcomes, "@", FIRST)
 }
+
+/// Fields of a List.
+const LISTS: &str = r#""metadata": {} => rejected 5 MissingField $.items
+"items": {} => rejected 2 WrongShape $.items
+"items": [], "status": {} => rejected 6 UnknownField $.status
+"items": [1] => rejected 2 WrongShape $.items[0]
+"items": [{"apiVersion": "v1", "kind": "List", "items": []}] => rejected 4 WrongKind $.items[0].kind
+"items": [{"apiVersion": "tekton.dev/v1", "kind": "TaskRun", "metadata": {"name": "a"}, "spec": {"taskRef": {"name": "t"}}}, null] => rejected 2 WrongShape $.items[1]"#;
 
 #[test]
 fn a_list_has_objects(rt: HostRuntime) -> Result<(), Fail> {
-    let alloc = rt.alloc();
-    let rows = [
-        ("'metadata': {}", "rejected 5 MissingField $.items\n"),
-        ("'items': {}", "rejected 2 WrongShape $.items\n"),
-        (
-            "'items': [], 'status': {}",
-            "rejected 6 UnknownField $.status\n",
-        ),
-        ("'items': [1]", "rejected 2 WrongShape $.items[0]\n"),
-        (
-            "'items': [{'apiVersion': 'v1', 'kind': 'List', 'items': []}]",
-            "rejected 4 WrongKind $.items[0].kind\n",
-        ),
-        (
-            "'items': [{'apiVersion': 'tekton.dev/v1', 'kind': 'TaskRun', 'metadata': {'name': 'a'}, 'spec': {'taskRef': {'name': 't'}}}, null]",
-            "rejected 2 WrongShape $.items[1]\n",
-        ),
-    ];
-    for (fields, line) in rows {
-        let text = format!(in alloc; "{{'apiVersion': 'v1', 'kind': 'List', {fields}}}")?;
-        assert_eq!(rt;
-            reading(alloc, KindSet::Four, text.as_str())?.as_str(),
-            line,
-            "{fields}"
-        );
-    }
-    Ok(())
+    let text = r#"{"apiVersion": "v1", "kind": "List", @}"#;
+    texts_hold(&rt, rt.alloc(), KindSet::Four, text, LISTS)
 }
+
+/// Metadata of a run.
+const NAMES: &str = r#"[] => rejected 2 WrongShape $.metadata
+{"labels": {}} => rejected 5 MissingField $.metadata.name
+{"name": 1} => rejected 2 WrongShape $.metadata.name
+{"name": "A"} => rejected 8 BadName $.metadata.name
+{"generateName": ""} => rejected 8 BadName $.metadata.generateName
+{"name": "a", "generateName": "-"} => rejected 8 BadName $.metadata.generateName
+{"name": "a.b-0", "labels": {"a": "b"}, "uid": "1"} => rejected 2 WrongShape $.spec
+{"generateName": "a-"} => rejected 2 WrongShape $.spec"#;
 
 #[test]
 fn an_object_has_a_name(rt: HostRuntime) -> Result<(), Fail> {
-    let alloc = rt.alloc();
-    let rows = [
-        ("[]", "rejected 2 WrongShape $.metadata\n"),
-        (
-            "{'labels': {}}",
-            "rejected 5 MissingField $.metadata.name\n",
-        ),
-        ("{'name': 1}", "rejected 2 WrongShape $.metadata.name\n"),
-        ("{'name': 'A'}", "rejected 8 BadName $.metadata.name\n"),
-        (
-            "{'generateName': ''}",
-            "rejected 8 BadName $.metadata.generateName\n",
-        ),
-        (
-            "{'name': 'a', 'generateName': '-'}",
-            "rejected 8 BadName $.metadata.generateName\n",
-        ),
-        (
-            "{'name': 'a.b-0', 'labels': {'a': 'b'}, 'uid': '1'}",
-            "rejected 2 WrongShape $.spec\n",
-        ),
-        ("{'generateName': 'a-'}", "rejected 2 WrongShape $.spec\n"),
-    ];
-    for (metadata, line) in rows {
-        let text = format!(in alloc;
-            "{{'apiVersion': 'tekton.dev/v1', 'kind': 'PipelineRun', 'metadata': {metadata}, 'spec': 1, 'status': 1}}"
-        )?;
-        assert_eq!(rt;
-            reading(alloc, KindSet::Four, text.as_str())?.as_str(),
-            line,
-            "{metadata}"
-        );
-    }
-    Ok(())
+    let text =
+        r#"{"apiVersion": "tekton.dev/v1", "kind": "PipelineRun", "metadata": @, "spec": 1, "status": 1}"#;
+    texts_hold(&rt, rt.alloc(), KindSet::Four, text, NAMES)
 }
 
 /// An object's kind and its name.
@@ -239,70 +143,68 @@ fn listed(alloc: Global, items: &[Item]) -> Result<String, AllocError> {
     Ok(lines)
 }
 
-/// The objects of a text with `'` for each quote, one a line, or the line of a refusal.
+/// The objects of a text, one a line, or the line of a refusal.
 fn listing(alloc: Global, text: &str) -> Result<String, AllocError> {
-    let text = text.replace(alloc, "'", "\"")?;
     match read_objects(alloc, text.as_bytes(), KindSet::Four) {
         Ok(items) => listed(alloc, items.as_slice()),
         outcome => String::from_str(alloc, told(alloc, outcome)?.as_str()),
     }
 }
 
+/// A spec of each kind.
+const SPECS: &str = r#"Task {"steps": [{"script": ""}]} => Task a-x $
+Pipeline {"tasks": [{"name": "a", "taskRef": {"name": "t"}}]} => Pipeline a-x $
+TaskRun {"taskRef": {"name": "t", "kind": "Task"}, "serviceAccountName": "default", "timeout": "1h0m0s"} => TaskRun a-x $
+PipelineRun {"pipelineRef": {"name": "p"}, "taskRunTemplate": {"serviceAccountName": "default"}, "timeouts": {"pipeline": "1h0m0s"}} => PipelineRun a-x $"#;
+
+/// What `kubectl` prints of an object of a kind with a spec.
+fn printed(alloc: Global, kind: &str, spec: &str) -> Result<String, AllocError> {
+    format!(in alloc;
+        r#"{{"apiVersion": "tekton.dev/v1", "kind": "{kind}", "metadata": {{"annotations": {{"a/b": "c"}}, "creationTimestamp": "2024-01-01T00:00:00Z", "generateName": "a-", "generation": 1, "labels": {{}}, "name": "a-x", "namespace": "default", "resourceVersion": "1", "uid": "0"}}, "spec": {spec}, "status": {{"conditions": [{{"type": "Succeeded"}}]}}}}"#
+    )
+}
+
 #[test]
 fn objects_are_read_as_kubectl_prints_them(rt: HostRuntime) -> Result<(), Fail> {
     let alloc = rt.alloc();
-    let rows = [
-        ("Task", "{'steps': [{'script': ''}]}"),
-        (
-            "Pipeline",
-            "{'tasks': [{'name': 'a', 'taskRef': {'name': 't'}}]}",
-        ),
-        (
-            "TaskRun",
-            "{'taskRef': {'name': 't', 'kind': 'Task'}, 'serviceAccountName': 'default', 'timeout': '1h0m0s'}",
-        ),
-        (
-            "PipelineRun",
-            "{'pipelineRef': {'name': 'p'}, 'taskRunTemplate': {'serviceAccountName': 'default'}, 'timeouts': {'pipeline': '1h0m0s'}}",
-        ),
-    ];
-    for (kind, spec) in rows {
-        let text = format!(in alloc;
-            "{{'apiVersion': 'tekton.dev/v1', 'kind': '{kind}', 'metadata': {{'annotations': {{'a/b': 'c'}}, 'creationTimestamp': '2024-01-01T00:00:00Z', 'generateName': 'a-', 'generation': 1, 'labels': {{}}, 'name': 'a-x', 'namespace': 'default', 'resourceVersion': '1', 'uid': '0'}}, 'spec': {spec}, 'status': {{'conditions': [{{'type': 'Succeeded'}}]}}}}"
-        )?;
-        let line = format!(in alloc; "{kind} a-x $\n")?;
-        assert_eq!(rt; listing(alloc, text.as_str())?.as_str(), line.as_str());
+    for row in SPECS.split('\n') {
+        let (given, wanted) = row.split_once(" => ").unwrap_or((row, "no answer"));
+        let (kind, spec) = given.split_once(' ').unwrap_or((given, "no spec"));
+        let text = printed(alloc, kind, spec)?;
+        let told = listing(alloc, text.as_str())?;
+        let line = told.as_str().strip_suffix('\n').unwrap_or("no line");
+        assert_eq!(rt; line, wanted, "of {given}");
     }
     Ok(())
 }
 
 /// A build as a user writes it.
-const BUILD: &str = "{'apiVersion':'v1','kind':'List','items':[
-{'apiVersion':'tekton.dev/v1','kind':'Task','metadata':{'name':'fetch'},'spec':{
- 'params':[{'name':'url'}],'results':[{'name':'commit'}],
- 'steps':[{'name':'clone','image':'alpine/git',
-  'script':'#!/bin/sh\\necho $(params.url)\\nprintf abc123 > $(results.commit.path)'}]}},
-{'apiVersion':'tekton.dev/v1','kind':'PipelineRun','metadata':{'generateName':'build-'},'spec':{
- 'params':[{'name':'url','value':'git.example/app'}],
- 'pipelineSpec':{'params':[{'name':'url'}],
- 'tasks':[
- {'name':'fetch','taskRef':{'name':'fetch'},'params':[{'name':'url','value':'$(params.url)'}]},
- {'name':'lint','runAfter':['fetch'],'taskSpec':{'steps':[{'image':'lint','script':'true'}]}},
- {'name':'test','runAfter':['fetch'],
-  'matrix':{'params':[{'name':'os','value':['linux','mac']}]},
-  'taskSpec':{'params':[{'name':'os'}],'results':[{'name':'log'}],
-  'steps':[{'script':'printf ok-$(params.os) > $(results.log.path)'}]}},
- {'name':'package','runAfter':['lint'],'params':[
-  {'name':'commit','value':'$(tasks.fetch.results.commit)'},
-  {'name':'logs','value':'$(tasks.test.results.log[*])'}],
-  'taskSpec':{'params':[{'name':'commit'},{'name':'logs','type':'array'}],
-  'results':[{'name':'image'},{'name':'logs','type':'array'}],
-  'steps':[{'script':'printf img-$(params.commit) > $(results.image.path)\\nprintf \\u0027[\\'%s\\',\\'%s\\']\\u0027 \\'$1\\' \\'$2\\' > $(results.logs.path)',
-  'args':['$(params.logs[*])']}]}}],
- 'finally':[{'name':'notify','params':[{'name':'st','value':'$(tasks.status)'}],
-  'taskSpec':{'params':[{'name':'st'}],'steps':[{'script':'[ $(params.st) = Succeeded ]'}]}}],
- 'results':[{'name':'image','value':'$(tasks.package.results.image)'},
-  {'name':'logs','value':'$(tasks.package.results.logs[*])'}]}}}]}";
+const BUILD: &str = r##"{"apiVersion":"v1","kind":"List","items":[
+{"apiVersion":"tekton.dev/v1","kind":"Task","metadata":{"name":"fetch"},"spec":{
+ "params":[{"name":"url"}],"results":[{"name":"commit"}],
+ "steps":[{"name":"clone","image":"alpine/git",
+  "script":"#!/bin/sh\necho $(params.url)\nprintf abc123 > $(results.commit.path)"}]}},
+{"apiVersion":"tekton.dev/v1","kind":"PipelineRun","metadata":{"generateName":"build-"},"spec":{
+ "params":[{"name":"url","value":"git.example/app"}],
+ "pipelineSpec":{"params":[{"name":"url"}],
+ "tasks":[
+ {"name":"fetch","taskRef":{"name":"fetch"},"params":[{"name":"url","value":"$(params.url)"}]},
+ {"name":"lint","runAfter":["fetch"],"taskSpec":{"steps":[{"image":"lint","script":"true"}]}},
+ {"name":"test","runAfter":["fetch"],
+  "matrix":{"params":[{"name":"os","value":["linux","mac"]}]},
+  "taskSpec":{"params":[{"name":"os"}],"results":[{"name":"log"}],
+  "steps":[{"script":"printf ok-$(params.os) > $(results.log.path)"}]}},
+ {"name":"package","runAfter":["lint"],"params":[
+  {"name":"commit","value":"$(tasks.fetch.results.commit)"},
+  {"name":"logs","value":"$(tasks.test.results.log[*])"}],
+  "taskSpec":{"params":[{"name":"commit"},{"name":"logs","type":"array"}],
+  "results":[{"name":"image"},{"name":"logs","type":"array"}],
+  "steps":[{"script":"printf img-$(params.commit) > $(results.image.path)\nprintf \u0027[\"%s\",\"%s\"]\u0027 \"$1\" \"$2\" > $(results.logs.path)",
+  "args":["$(params.logs[*])"]}]}}],
+ "finally":[{"name":"notify","params":[{"name":"st","value":"$(tasks.status)"}],
+  "taskSpec":{"params":[{"name":"st"}],"steps":[{"script":"[ $(params.st) = Succeeded ]"}]}}],
+ "results":[{"name":"image","value":"$(tasks.package.results.image)"},
+  {"name":"logs","value":"$(tasks.package.results.logs[*])"}]}}}]}"##;
 
 #[test]
 fn a_build_is_read(rt: HostRuntime) -> Result<(), Fail> {

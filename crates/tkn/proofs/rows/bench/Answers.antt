@@ -1,7 +1,7 @@
 use Rattle.std.proofs.Common.{[], ◌∷◌, ◌++◌, ◌∙◌, ap}
 use Rattle.tk_run.specs.Begun.{IsNewController, IsNewNode}
 use Rattle.tkn.proofs.Pairs.{both, some_both}
-use Rattle.tkn.proofs.top_tests.bench.Goals as goal
+use Rattle.tkn.proofs.rows.bench.Goals as goal
 
 pub returns : goal.returns
 returns c =
