@@ -55,17 +55,36 @@ pub(crate) fn bench<G: Gate + Drop>(
     })
 }
 
-/// What is asked at once.
-pub(crate) fn asked(alloc: Global, asks: &[(&str, Asked)]) -> Result<Vec<AskWord>, AllocError> {
+/// The status of this name.
+fn status_named(word: &str) -> Option<Asked> {
+    match word {
+        "Start" => Some(Asked::Start),
+        "StoppedRunFinally" => Some(Asked::StoppedRunFinally),
+        "CancelledRunFinally" => Some(Asked::CancelledRunFinally),
+        "Cancelled" => Some(Asked::Cancelled),
+        "TaskRunCancelled" => Some(Asked::TaskRunCancelled),
+        _ => None,
+    }
+}
+
+/// What words `RUN=STATUS` with a blank between each two ask at once, or None where one of them can't be read.
+pub(crate) fn asked(alloc: Global, line: &str) -> Result<Option<Vec<AskWord>>, AllocError> {
     let mut words = Vec::new(alloc);
-    for (run, status) in asks {
+    if line.is_empty() {
+        return Ok(Some(words));
+    }
+    for word in line.split(' ') {
+        let (run, status) = word.split_once('=').unwrap_or((word, ""));
+        let Some(status) = status_named(status) else {
+            return Ok(None);
+        };
         words.push(AskWord {
             run: Text::from_str(alloc, run)?,
-            status: *status,
+            status,
             delay: 0,
         })?;
     }
-    Ok(words)
+    Ok(Some(words))
 }
 
 /// The report of a run that came to its end, or nothing.
@@ -76,4 +95,14 @@ pub(crate) fn told(alloc: Global, ran: &Ran) -> Result<Text, AllocError>
         Ok(()) => report(alloc, &ran.journal),
         Err(_) => Ok(Text::new(alloc)),
     }
+}
+
+/// A report as a row tells it: without its last line feed, or `nothing` where it is empty.
+pub(crate) fn lines(report: &str) -> &str {
+    if report.is_empty() {
+        return "nothing";
+    }
+    report
+        .strip_suffix('\n')
+        .unwrap_or("no line feed at its end")
 }

@@ -2,74 +2,100 @@
 
 ghost use Rattle.std.specs.Prelude.{◌≡◌, IfOk};
 
-use crate::benches::{asked, bench, told};
+use crate::benches::{asked, bench, lines, told};
 use std::alloc::{AllocError, Global};
 use std::sync::Wait;
+use std::test::Fail;
 use tk_edge::Fresh;
-use tk_run::run;
-use tk_types::{Asked, List, Text};
+use tk_run::{AskWord, run};
+use tk_types::{List, Text};
 
 /// What is reported of a run of these objects, on which this is asked, with gates that keep caches fresh.
 fn ran<T: Wait>(
     rt: &T,
     alloc: Global,
     text: &str,
-    asks: &[(&str, Asked)],
+    asks: &[AskWord],
     failing: List<u64>,
 ) -> Result<Text, AllocError> {
     let mut bench = bench(alloc, Fresh::new(), Fresh::new(), List::new(alloc), failing)?;
-    let words = asked(alloc, asks)?;
-    let ran = run(
-        rt,
-        alloc,
-        text.as_bytes(),
-        "/work",
-        words.as_slice(),
-        &mut bench,
-    );
+    let ran = run(rt, alloc, text.as_bytes(), "/work", asks, &mut bench);
     told(alloc, &ran)
 }
 
-pub(crate) const ONE: &str =
+/// A run with one task.
+const ONE: &str =
     r#"{"apiVersion": "tekton.dev/v1", "kind": "PipelineRun", "metadata": {"name": "r"}, "spec": {"pipelineSpec": {"tasks": [{"name": "a", "taskSpec": {"steps": [{"name": "s", "image": "i", "script": "true"}]}}]}}}"#;
 
-pub(crate) const TWO: &str =
+/// A run with two tasks, one behind the other.
+const TWO: &str =
     r#"{"apiVersion": "tekton.dev/v1", "kind": "PipelineRun", "metadata": {"name": "r"}, "spec": {"pipelineSpec": {"tasks": [{"name": "a", "taskSpec": {"steps": [{"name": "s", "image": "i", "script": "true"}]}}, {"name": "b", "runAfter": ["a"], "taskSpec": {"steps": [{"name": "s", "image": "i", "script": "true"}, {"name": "t", "image": "i", "script": "true"}]}}]}}}"#;
 
+/// The run with one task, which is pending.
 const PENDING: &str =
     r#"{"apiVersion": "tekton.dev/v1", "kind": "PipelineRun", "metadata": {"name": "r"}, "spec": {"status": "PipelineRunPending", "pipelineSpec": {"tasks": [{"name": "a", "taskSpec": {"steps": [{"name": "s", "image": "i", "script": "true"}]}}]}}}"#;
 
-pub(crate) const SUCCEEDED: &str =
-    "pipelinerun r True Succeeded\n  taskrun r-a a 0 Succeeded attempts 1\n";
+/// The input of a name, or the text itself where it is none.
+pub(crate) fn input(name: &str) -> &str {
+    match name {
+        "one" => ONE,
+        "two" => TWO,
+        "pending" => PENDING,
+        _ => name,
+    }
+}
 
-pub(crate) const BOTH_SUCCEEDED: &str =
-    "pipelinerun r True Succeeded\n  taskrun r-a a 0 Succeeded attempts 1\n  taskrun r-b b 0 Succeeded attempts 1\n";
+/// What is reported of a row's input, on which is asked what the row says.
+fn reported<T: Wait>(rt: &T, alloc: Global, line: &str) -> Result<String, AllocError> {
+    let (name, asks) = line.split_once(' ').unwrap_or((line, ""));
+    let Some(asks) = asked(alloc, asks)? else {
+        return String::from_str(alloc, "no asks");
+    };
+    let report = ran(rt, alloc, input(name), asks.as_slice(), List::new(alloc))?;
+    String::from_str(alloc, lines(report.as_str()))
+}
 
-/// An input, what is asked of it at once, and the report.
-const ROWS: [(&str, &[(&str, Asked)], &str); 8] = [
-    (ONE, &[], SUCCEEDED),
-    (TWO, &[], BOTH_SUCCEEDED),
-    (PENDING, &[], "pipelinerun r Unknown PipelineRunPending\n"),
-    (PENDING, &[("r", Asked::Start)], SUCCEEDED),
-    (
-        PENDING,
-        &[("r", Asked::Start), ("r", Asked::Start)],
-        SUCCEEDED,
-    ),
-    (
-        ONE,
-        &[("r", Asked::Cancelled)],
-        "pipelinerun r False Cancelled\n  skipped a PipelineRun was cancelled\n",
-    ),
-    (ONE, &[("q", Asked::Cancelled)], SUCCEEDED),
-    ("{}", &[], ""),
-];
+/// The name of an input or its text, what is asked of it at once, and behind `=> ` its report. An empty line parts the rows.
+const ROWS: &str = "one
+=> pipelinerun r True Succeeded
+  taskrun r-a a 0 Succeeded attempts 1
+
+two
+=> pipelinerun r True Succeeded
+  taskrun r-a a 0 Succeeded attempts 1
+  taskrun r-b b 0 Succeeded attempts 1
+
+pending
+=> pipelinerun r Unknown PipelineRunPending
+
+pending r=Start
+=> pipelinerun r True Succeeded
+  taskrun r-a a 0 Succeeded attempts 1
+
+pending r=Start r=Start
+=> pipelinerun r True Succeeded
+  taskrun r-a a 0 Succeeded attempts 1
+
+one r=Cancelled
+=> pipelinerun r False Cancelled
+  skipped a PipelineRun was cancelled
+
+one q=Cancelled
+=> pipelinerun r True Succeeded
+  taskrun r-a a 0 Succeeded attempts 1
+
+{}
+=> nothing";
 
 #[test]
-fn runs_come_to_their_end(rt: HostRuntime) -> Result<(), AllocError> {
-    for (text, asks, wanted) in ROWS {
-        let found = ran(&rt, rt.alloc(), text, asks, List::new(rt.alloc()))?;
-        assert_eq!(rt; found.as_str(), wanted);
+fn runs_come_to_their_end(rt: HostRuntime) -> Result<(), Fail> {
+    for row in ROWS.split("\n\n") {
+        let (line, wanted) = row.split_once("\n=> ").unwrap_or((row, "no answer"));
+        assert_eq!(rt;
+            reported(&rt, rt.alloc(), line)?.as_str(),
+            wanted,
+            "of {line}"
+        );
     }
     Ok(())
 }
