@@ -1,56 +1,25 @@
-//! The program `tkn`. `plain` carries out its words over any source and any sink, and its clauses say what a caller
-//! sees; `main` gives it the words, standard input and standard output, and says on standard error what is wrong where a
-//! status tells no more. What is due for the bytes of an input is defined in `specs/Due.antt`, over what `tk_admit`
-//! admits of them: the line of the first fault, the number of objects, or the lines of a run that is decided; what
-//! `simulate` answers is defined in `specs/Answer.antt`, over the journal that `tk_simulate` plays.
+//! The program `tkn`: `main` gives the words, standard input, standard output and a bench over the system's clock, folders and
+//! programs to `tkn` of `tk_commands`, whose clauses say what it does with them, and says on standard error what is wrong where
+//! a status tells no more.
 #![tactic(auto)]
 
-ghost use Rattle.std.specs.Prelude.{IfOk};
+ghost use Rattle.std.specs.Prelude.{◌≡◌, ◌<◌, ◌⊎◌, ◌↔◌, is_some, IfOk, IsTrue};
 ghost use Rattle.tk_run.specs.Begun.{IsNewBench, IsNewController, IsNewNode};
 
-mod answer;
-mod command;
-#[cfg(test)]
-mod data_tests;
-#[cfg(test)]
-mod decision_tests;
-mod due;
-mod generate;
-mod generate_words;
-mod input;
-mod output;
-#[cfg(test)]
-mod outside_tests;
-mod plain;
-mod printing;
 mod remembering;
 #[cfg(test)]
-mod rows;
-#[cfg(test)]
-mod rule_tests;
-mod run_words;
-#[cfg(test)]
-mod run_words_tests;
-#[cfg(test)]
-mod simulate_tests;
-#[cfg(test)]
-mod tests;
-mod top;
-#[cfg(test)]
-mod top_tests;
-mod unready;
+mod saying_tests;
 
-use plain::Ended;
 use remembering::{Heard, Remembering};
 use std::alloc::{AllocError, Global};
 use std::process::ExitCode;
 use std::sync::Wait;
 use std::{env, io};
 use tk_advice::{USAGE, advice, complaint};
+use tk_commands::{Ended, tkn};
 use tk_edge::{Fresh, Host, ReadSource, RealHost, SystemClock, WriteSink};
 use tk_rounds::{Bench, Controller, Node};
 use tk_types::{List, Text};
-use top::tkn;
 
 /// What standard error says beside a status.
 #[derive(Drop)]
@@ -65,7 +34,9 @@ enum Said {
 }
 
 /// What standard error says of a status that has nothing to do with what the input says, if anything.
-fn message(status: u8) -> Option<&'static str> {
+fn message(status: u8) -> Option<&'static str>
+    ensures { IsTrue (is_some result) ↔ ((status ≡ 4) ⊎ (status ≡ 5) ⊎ (status ≡ 6)) }
+{
     match status {
         4 => Some("standard input can't be read; give the input by < INPUT.json or by a pipe"),
         5 => Some(
@@ -86,7 +57,9 @@ fn words(rt: &HostRuntime, alloc: Global) -> io::Result<List<Text>> {
 }
 
 /// How a program ends whose words can't be had.
-fn without_words(error: io::Error) -> (u8, Said) {
+fn without_words(error: io::Error) -> (u8, Said)
+    ensures { (result.0 ≡ 2) ⊎ (result.0 ≡ 6) }
+{
     match error.kind() {
         io::ErrorKind::OutOfMemory => (6, Said::Nothing),
         _ => (2, Said::Usage("a word isn't text in UTF-8", USAGE)),
@@ -153,7 +126,9 @@ fn advice_of(alloc: Global, printed: &[u8], read: Option<&[u8]>) -> Said {
 }
 
 /// Carries out the words, and gives the status, and what else to say.
-fn run<T: Wait>(rt: &HostRuntime, wait: &T) -> (u8, Said) {
+fn run<T: Wait>(rt: &HostRuntime, wait: &T) -> (u8, Said)
+    ensures { result.0 < 8 }
+{
     let alloc = rt.alloc();
     let words = match words(rt, alloc) {
         Ok(words) => words,
