@@ -1,10 +1,11 @@
-//! A host in memory and entrypoints over it, with ample memory.
+//! A host in memory whose steps all end with one exit, with ample memory.
 ghost use Rattle.std.specs.Prelude.{ℕ, IfOk};
 ghost use Rattle.tk_host_tests.specs.Armed.{IsArmed};
 
+use crate::calls::called;
 use std::alloc::{AllocError, Global};
 use std::test::Fail;
-use tk_edge::{Armed, CleanHost, Host, Miss, Order, Poll, WaitFile, Watch, armed_turn};
+use tk_edge::{CleanHost, Host, Miss, Order, Watch};
 use tk_types::{List, Text};
 
 fn order(alloc: Global, step: u32) -> Result<Order, AllocError> {
@@ -90,60 +91,24 @@ fn no_step_starts_behind_one_that_broke(rt: HostRuntime) -> Result<(), Fail> {
     Ok(())
 }
 
+/// Each call but `watch` once.
+const CALLS: &str = "put | @/a | abc => done
+look | @/a => stands
+fetch | @/a | 2 => ab
+clear | @ => done
+look | @/a => none
+start p 0 => 0
+poll 0 => exited 7
+kill 0 => done";
+
 #[test]
 fn each_call_of_a_host_answers(rt: HostRuntime) -> Result<(), Fail> {
     let alloc = rt.alloc();
     let mut host = CleanHost::new(alloc, 7);
-    host.put("/p/a", b"abc")?;
-    assert_eq!(rt; host.look("/p/a"), Ok(true));
-    let bytes = host.fetch("/p/a", 2)?;
-    assert!(rt; bytes.is_some_and(|b| b.as_slice() == b"ab".as_slice()));
-    host.clear("/p")?;
-    assert_eq!(rt; host.look("/p/a"), Ok(false));
-    let child = host.start(&order(alloc, 0)?)?;
-    assert_eq!(rt; host.poll(child), Ok(Poll::Exited(7)));
-    assert_eq!(rt; host.kill(child), Ok(()));
-    Ok(())
-}
-
-/// Three turns of an entrypoint: before its wait file stands, and twice behind that.
-fn turns(alloc: Global, host: &mut CleanHost, note: Option<Text>) -> Result<[Watch; 3], Miss> {
-    let mut armed = Armed {
-        order: order(alloc, 0)?,
-        wait: WaitFile::new(alloc, Text::from_str(alloc, "/run/start")?)?,
-        post: Text::from_str(alloc, "/run/0")?,
-        keep_going: false,
-        note,
-        child: None,
-        exit: None,
-        last: None,
-    };
-    let first = armed_turn(alloc, host, &mut armed)?;
-    host.put("/run/start", b"")?;
-    let second = armed_turn(alloc, host, &mut armed)?;
-    let third = armed_turn(alloc, host, &mut armed)?;
-    Ok([first, second, third])
-}
-
-#[test]
-fn an_entrypoint_posts_how_its_step_ended(rt: HostRuntime) -> Result<(), Fail> {
-    let alloc = rt.alloc();
-    let mut host = CleanHost::new(alloc, 0);
-    let passed = Watch::Passed { exit: 0 };
-    assert_eq!(rt;
-        turns(alloc, &mut host, None)?,
-        [Watch::Waits, Watch::Started, passed]
-    );
-    assert_eq!(rt; host.look("/run/0"), Ok(true));
-    let mut host = CleanHost::new(alloc, 12);
-    let broke = Watch::Broke { exit: Some(12) };
-    let note = Text::from_str(alloc, "/note")?;
-    assert_eq!(rt;
-        turns(alloc, &mut host, Some(note))?,
-        [Watch::Waits, Watch::Started, broke]
-    );
-    assert_eq!(rt; host.look("/run/0.err"), Ok(true));
-    let bytes = host.fetch("/note", 4)?;
-    assert!(rt; bytes.is_some_and(|b| b.as_slice() == b"12\n".as_slice()));
+    for line in CALLS.split('\n') {
+        let (call, wanted) = line.split_once(" => ").unwrap_or((line, "no answer"));
+        let told = called(alloc, &mut host, "/p", call)?;
+        assert_eq!(rt; told.as_str(), wanted, "of {call}");
+    }
     Ok(())
 }

@@ -3,11 +3,11 @@
 #![tactic(auto)]
 
 #[cfg(test)]
+mod calls;
+#[cfg(test)]
 mod clean_host;
 #[cfg(test)]
 mod entrypoint;
-#[cfg(test)]
-mod failing_host;
 #[cfg(test)]
 mod real_host;
 #[cfg(test)]

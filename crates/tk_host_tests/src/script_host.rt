@@ -1,20 +1,12 @@
 //! A host that plays scripts, with ample memory.
 
+use crate::calls::{called, child_of, verb_of, watched};
 use std::alloc::{AllocError, Global};
+use std::process::Abort;
 use std::test::Fail;
-use tk_edge::{Failed, Host, Miss, Order, Poll, Watch};
+use tk_edge::Host;
 use tk_script::{PodScript, ScriptHost};
 use tk_types::{List, Pair, Text};
-
-fn order_of(alloc: Global, pod: &str, step: u32) -> Result<Order, AllocError> {
-    Ok(Order {
-        pod: Text::from_str(alloc, pod)?,
-        step,
-        argv: List::new(alloc),
-        env: List::new(alloc),
-        dir: Text::new(alloc),
-    })
-}
 
 fn pair(alloc: Global, key: &str, value: &str) -> Result<Pair, AllocError> {
     Ok(Pair {
@@ -40,138 +32,117 @@ fn host_of(alloc: Global, failing: &[u64]) -> Result<ScriptHost, AllocError> {
     ScriptHost::new(alloc, Text::from_str(alloc, "/work")?, scripts, failing)
 }
 
-/// One turn of an armed child.
-fn turn(host: &mut ScriptHost, child: u64) -> Result<Watch, Miss> {
+/// What a turn of a child came to, if it is armed.
+fn turn(alloc: Global, host: &mut ScriptHost, child: u64) -> Result<String, AllocError> {
     if host.is_armed(child) {
-        host.watch(child)
+        watched(alloc, host.watch(child))
     } else {
-        Err(Miss::Memory)
+        String::from_str(alloc, "not armed")
     }
 }
 
-/// Whether one watch of each child answers so.
-fn watches_give(
-    host: &mut ScriptHost,
-    children: [u64; 3],
-    wanted: [Watch; 3],
-) -> Result<bool, Miss> {
-    for i in 0..3 {
-        if turn(host, children[i])? != wanted[i] {
-            return Ok(false);
-        }
+/// What a call came to.
+fn told(alloc: Global, host: &mut ScriptHost, call: &str) -> Result<String, AllocError> {
+    match verb_of(call) {
+        "watch" => turn(alloc, host, child_of(call)),
+        "faults" => format!(in alloc; "{}", host.faults()),
+        _ => called(alloc, host, "/work/p", call),
     }
-    Ok(true)
 }
 
-/// The three steps of the pod, armed one behind the other.
-fn armed(host: &mut ScriptHost, alloc: Global) -> Result<[u64; 3], Fail> {
-    let first = order_of(alloc, "p", 0)?;
-    let second = order_of(alloc, "p", 1)?;
-    let third = order_of(alloc, "p", 2)?;
-    Ok([
-        host.launch(&first, "/work/p/run/start", "/work/p/run/0/out", false)?,
-        host.launch(&second, "/work/p/run/0/out", "/work/p/run/1/out", false)?,
-        host.launch(&third, "/work/p/run/1/out", "/work/p/run/2/out", false)?,
-    ])
-}
-
-/// Whether the files of the pod's folder stand so.
-fn files_stand(
-    host: &mut ScriptHost,
+/// Whether each line holds.
+fn lines_hold<T: Abort>(
+    rt: &T,
     alloc: Global,
-    rows: [(&str, bool); 5],
-) -> Result<bool, Fail> {
-    for (name, stands) in rows {
-        let path = format!(in alloc; "/work/p/{name}")?;
-        if host.look(path.as_str())? != stands {
-            return Ok(false);
-        }
+    host: &mut ScriptHost,
+    lines: &str,
+) -> Result<(), Fail> {
+    for line in lines.split('\n') {
+        let (call, wanted) = line.split_once(" => ").unwrap_or((line, "no answer"));
+        let told = told(alloc, host, call)?;
+        assert_eq!(rt; told.as_str(), wanted, "of {call}");
     }
-    Ok(true)
+    Ok(())
 }
 
-/// Whether the first step starts once its file was put, and the result stands from then on.
-fn the_first_step_starts(host: &mut ScriptHost, children: [u64; 3]) -> Result<bool, Miss> {
-    let waits = watches_give(host, children, [Watch::Waits; 3])?;
-    host.put("/work/p/run/start", b"")?;
-    let early = host.look("/work/p/results/r")?;
-    let first = [Watch::Started, Watch::Waits, Watch::Waits];
-    let starts = watches_give(host, children, first)?;
-    match host.fetch("/work/p/results/r", 2)? {
-        Some(found) => Ok(waits && !early && starts && found.as_slice() == b"on".as_slice()),
-        None => Ok(false),
-    }
-}
-
-/// Whether the first step passes, the second breaks and the third is refused.
-fn the_second_step_breaks(host: &mut ScriptHost, children: [u64; 3]) -> Result<bool, Miss> {
-    let passed = Watch::Passed { exit: 0 };
-    let starts = watches_give(host, children, [passed, Watch::Started, Watch::Waits])?;
-    let broke = Watch::Broke { exit: Some(3) };
-    let last = [passed, broke, Watch::Broke { exit: None }];
-    let once = watches_give(host, children, last)?;
-    let twice = watches_give(host, children, last)?;
-    Ok(starts && once && twice)
-}
+/// The first step starts once its file was put, and its results stand from then on; the second breaks, the third is refused.
+const POD: &str = "clear | @ => done
+launch p 0 | @/run/start | @/run/0/out => 0
+launch p 1 | @/run/0/out | @/run/1/out => 1
+launch p 2 | @/run/1/out | @/run/2/out => 2
+watch 0 => waits
+watch 1 => waits
+watch 2 => waits
+put | @/run/start => done
+look | @/results/r => none
+watch 0 => started
+watch 1 => waits
+watch 2 => waits
+fetch | @/results/r | 2 => on
+watch 0 => passed 0
+watch 1 => started
+watch 2 => waits
+watch 0 => passed 0
+watch 1 => broke 3
+watch 2 => refused
+watch 0 => passed 0
+watch 1 => broke 3
+watch 2 => refused
+look | @/results/a/b => none
+look | @/run/0/out => stands
+look | @/run/1/out => none
+look | @/run/1/out.err => stands
+look | @/run/2/out.err => stands
+clear | @/results => done
+look | @/results/r => none
+faults => 0";
 
 #[test]
 fn a_pod_of_three_steps_plays_its_script(rt: HostRuntime) -> Result<(), Fail> {
     let alloc = rt.alloc();
     let mut host = host_of(alloc, &[])?;
-    host.clear("/work/p")?;
-    let children = armed(&mut host, alloc)?;
-    assert!(rt; the_first_step_starts(&mut host, children)?);
-    assert!(rt; the_second_step_breaks(&mut host, children)?);
-    let rows = [
-        ("results/a/b", false),
-        ("run/0/out", true),
-        ("run/1/out", false),
-        ("run/1/out.err", true),
-        ("run/2/out.err", true),
-    ];
-    assert!(rt; files_stand(&mut host, alloc, rows)?);
-    host.clear("/work/p/results")?;
-    assert!(rt; !host.look("/work/p/results/r")?);
-    Ok(())
+    lines_hold(&rt, alloc, &mut host, POD)
 }
+
+const STARTED: &str = "start p 1 => 0
+poll 0 => exited 3
+poll 0 => exited 3
+start p 2 => 1
+poll 1 => exited 0
+poll 1 => exited 0
+start q 1 => 2
+poll 2 => exited 0
+poll 2 => exited 0
+look | @/results/r => stands";
 
 #[test]
 fn a_started_child_ends_with_its_exit(rt: HostRuntime) -> Result<(), Fail> {
     let alloc = rt.alloc();
     let mut host = host_of(alloc, &[])?;
-    for (pod, step, exit) in [("p", 1, 3), ("p", 2, 0), ("q", 1, 0)] {
-        let child = host.start(&order_of(alloc, pod, step)?)?;
-        assert_eq!(rt; host.poll(child)?, Poll::Exited(exit));
-        assert_eq!(rt; host.poll(child)?, Poll::Exited(exit));
+    lines_hold(&rt, alloc, &mut host, STARTED)
+}
+
+/// One call of each kind, the last on what the one before it launched.
+const EACH: &str = "clear | @
+put | @/run/start
+look | @/run/start
+fetch | @/run/start | 1
+start p 0
+poll 0
+kill 0
+launch p 0 | @/run/start | @/run/0/out
+watch 1";
+
+/// The places of the calls that fail.
+fn failures(alloc: Global, host: &mut ScriptHost) -> Result<String, AllocError> {
+    let mut places = String::new(alloc);
+    for (place, call) in EACH.split('\n').enumerate() {
+        if told(alloc, host, call)?.as_str() == "failed" {
+            let place = format!(in alloc; "{place} ")?;
+            places.push_str(place.as_str())?;
+        }
     }
-    assert!(rt; host.look("/work/p/results/r")?);
-    Ok(())
-}
-
-fn is_failed<T: Drop>(answer: Result<T, Miss>) -> bool {
-    matches!(answer, Err(Miss::Failed))
-}
-
-/// Which of nine calls failed. The last is made only where the one before it didn't fail.
-fn failures(host: &mut ScriptHost, alloc: Global) -> Result<[bool; 9], Fail> {
-    let order = order_of(alloc, "p", 0)?;
-    let clear = is_failed(host.clear("/work/p"));
-    let put = is_failed(host.put("/work/p/run/start", b""));
-    let look = is_failed(host.look("/work/p/run/start"));
-    let fetch = is_failed(host.fetch("/work/p/run/start", 1));
-    let start = is_failed(host.start(&order));
-    let poll = is_failed(host.poll(0));
-    let kill = host.kill(0) == Err(Failed);
-    let (launch, watch) = match host.launch(
-        &order,
-        "/work/p/run/start",
-        "/work/p/run/0/out",
-        false,
-    ) {
-        Ok(child) => (false, is_failed(turn(host, child))),
-        Err(miss) => (miss == Miss::Failed, false),
-    };
-    Ok([clear, put, look, fetch, start, poll, kill, launch, watch])
+    Ok(places)
 }
 
 #[test]
@@ -179,10 +150,9 @@ fn each_call_fails_in_turn(rt: HostRuntime) -> Result<(), Fail> {
     let alloc = rt.alloc();
     for call in 0..9 {
         let mut host = host_of(alloc, &[call])?;
-        let failed = failures(&mut host, alloc)?;
-        for other in 0..9 {
-            assert_eq!(rt; failed[other as usize], other == call);
-        }
+        let failed = failures(alloc, &mut host)?;
+        let wanted = format!(in alloc; "{call} ")?;
+        assert_eq!(rt; failed.as_str(), wanted.as_str());
         assert_eq!(rt; host.faults(), 1);
     }
     Ok(())
