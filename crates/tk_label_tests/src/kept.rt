@@ -1,5 +1,6 @@
 //! Labels that follow the entries of a journal, position by position.
 ghost use Rattle.std.specs.Prelude.{OnOk};
+ghost use Rattle.std.specs.Option.{ForSome};
 ghost use Rattle.tk_cache.specs.Fronts.{Shows};
 ghost use Rattle.tk_cache.specs.Views.{seen};
 ghost use Rattle.tk_journal.specs.Legal.{IsLegal};
@@ -10,52 +11,33 @@ use tk_cache::laws::nothing_shows;
 use tk_journal::Journal;
 use tk_labels::Labels;
 use tk_run_cache::RunCache;
-use tk_simulate::start;
+use tk_simulate::simulate;
 use tk_types::{Kind, Verdict};
-use tk_world::World;
 
-/// A run of two tasks one behind the other, and one of `finally`, in front of its Scenario's `spec`.
-const CHAIN: &str = "{'apiVersion': 'v1', 'kind': 'List', 'items': [
-    {'apiVersion': 'tekton.dev/v1', 'kind': 'PipelineRun', 'metadata': {'name': 'r'}, 'spec': {'pipelineSpec': {
-        'tasks': [
-            {'name': 'a', 'taskSpec': {'steps': [{'command': ['true']}]}},
-            {'name': 'b', 'runAfter': ['a'], 'taskSpec': {'steps': [{'command': ['true']}]}}],
-        'finally': [{'name': 'f', 'taskSpec': {'steps': [{'command': ['true']}]}}]}}},
-    {'apiVersion': 'tkn.local/v1', 'kind': 'Scenario', 'metadata': {'name': 's'}, 'spec': ";
+/// A run of two tasks one behind the other, and one of `finally`, and a Scenario up to its outcomes.
+const CHAIN: &str = r#"{"apiVersion": "v1", "kind": "List", "items": [
+    {"apiVersion": "tekton.dev/v1", "kind": "PipelineRun", "metadata": {"name": "r"}, "spec": {"pipelineSpec": {
+        "tasks": [
+            {"name": "a", "taskSpec": {"steps": [{"command": ["true"]}]}},
+            {"name": "b", "runAfter": ["a"], "taskSpec": {"steps": [{"command": ["true"]}]}}],
+        "finally": [{"name": "f", "taskSpec": {"steps": [{"command": ["true"]}]}}]}}},
+    {"apiVersion": "tkn.local/v1", "kind": "Scenario", "metadata": {"name": "s"}, "spec": {"outcomes": ["#;
 
-/// A Scenario's `spec` of thirty rounds, in which attempts end so.
-fn rounds(alloc: Global, outcomes: &str) -> Result<String, AllocError> {
-    let mut spec = String::from_str(alloc, "{'outcomes': [")?;
-    spec.push_str(outcomes)?;
-    spec.push_str("], 'events': ['round'")?;
-    for _ in 1..30 {
-        spec.push_str(", 'round'")?;
-    }
-    spec.push_str("]}")?;
-    Ok(spec)
+/// The run, whose attempts end so.
+fn input(alloc: Global, outcomes: &str) -> Result<String, AllocError> {
+    let mut text = String::from_str(alloc, CHAIN)?;
+    text.push_str(outcomes)?;
+    text.push_str("]}}]}")?;
+    Ok(text)
 }
 
-/// The bytes of an input: `'` stands for `"`.
-fn input(alloc: Global, runs: &str, scenario: &str) -> Result<Vec<u8>, AllocError> {
-    let mut bytes = Vec::new(alloc);
-    for part in [runs, scenario, "}]}"] {
-        for byte in part.as_bytes() {
-            bytes.push(if *byte == b'\'' { b'"' } else { *byte })?;
-        }
-    }
-    Ok(bytes)
-}
-
-/// The world behind an input's events.
-fn played(alloc: Global, runs: &str, scenario: &str) -> Result<Option<World>, AllocError> {
-    let bytes = input(alloc, runs, scenario)?;
-    match start(alloc, bytes.as_slice()) {
-        Ok(started) => {
-            let mut world = started.world;
-            world.run(started.scenario.events.as_slice())?;
-            Ok(Some(world))
-        }
-        Err(_) => Ok(None),
+/// The journal of an input that is played to its end, where it is admitted.
+pub(crate) fn journal_of(alloc: Global, text: &str) -> Option<Journal>
+    ensures { ForSome result (λ journal. IsLegal journal.history) }
+{
+    match simulate(alloc, text.as_bytes()) {
+        Ok(journal) => Some(journal),
+        Err(_) => None,
     }
 }
 
@@ -157,35 +139,40 @@ fn late(alloc: Global, journal: &Journal, position: u64) -> Result<String, Alloc
     told(alloc, &cache)
 }
 
-/// What is told of an input's journal, and nothing where it is refused.
-fn told_in_all(alloc: Global, runs: &str, scenario: &str) -> Result<(String, String), AllocError> {
-    let Some(world) = played(alloc, runs, scenario)? else {
-        return Ok((String::new(alloc), String::new(alloc)));
-    };
-    world.legal();
-    let journal = world.journal();
-    Ok((sequence(alloc, journal)?, late(alloc, journal, 0)?))
+/// How attempts end, and behind `=> ` what is told at each position where it changes, and late; rows are parted by an empty
+/// line.
+const ROWS: &str = r#"
+=> Rww0/0/0 rww/0/1 rww/0/0 dRw1/0/0 drw/0/1 drw/0/0 ddR2/0/0 ddr/0/1 ddr/0/0 ddd!/0/0 late rrr/0/3
+
+{"taskRun": "r-a", "attempt": 1, "exits": [1]}
+=> Rww0/0/0 rww/0/1 rww/0/0 dww/0/0 dsR2/1/0 dsr/1/1 dsr/1/0 dsd!/1/0 late rsr/1/2"#;
+
+/// What is told of a journal at each position, and late.
+fn told_in_all(alloc: Global, journal: &Journal) -> Result<String, AllocError>
+    requires { IsLegal journal.now.history }
+{
+    let mut line = sequence(alloc, journal)?;
+    let late = late(alloc, journal, 0)?;
+    line.push_str("late ")?;
+    line.push_str(late.as_str())?;
+    Ok(line)
+}
+
+/// What is told of the run whose attempts end so, and nothing where it is refused.
+fn told_of_run(alloc: Global, outcomes: &str) -> Result<String, AllocError> {
+    let text = input(alloc, outcomes)?;
+    match journal_of(alloc, text.as_str()) {
+        Some(journal) => told_in_all(alloc, &journal),
+        None => Ok(String::new(alloc)),
+    }
 }
 
 #[test]
 fn labels_follow_each_entry(rt: HostRuntime) -> Result<(), Fail> {
-    let alloc = rt.alloc();
-    for (outcomes, in_turn, listed_again) in [
-        (
-            "",
-            "Rww0/0/0 rww/0/1 rww/0/0 dRw1/0/0 drw/0/1 drw/0/0 ddR2/0/0 ddr/0/1 ddr/0/0 ddd!/0/0 ",
-            "rrr/0/3",
-        ),
-        (
-            "{'taskRun': 'r-a', 'attempt': 1, 'exits': [1]}",
-            "Rww0/0/0 rww/0/1 rww/0/0 dww/0/0 dsR2/1/0 dsr/1/1 dsr/1/0 dsd!/1/0 ",
-            "rsr/1/2",
-        ),
-    ] {
-        let scenario = rounds(alloc, outcomes)?;
-        let (told, late) = told_in_all(alloc, CHAIN, scenario.as_str())?;
-        assert_eq!(rt; told.as_str(), in_turn);
-        assert_eq!(rt; late.as_str(), listed_again);
+    for row in ROWS.split("\n\n") {
+        let (outcomes, wanted) = row.split_once("\n=> ").unwrap_or((row, "no answer"));
+        let told = told_of_run(rt.alloc(), outcomes)?;
+        assert_eq!(rt; told.as_str(), wanted, "of {outcomes}");
     }
     Ok(())
 }

@@ -1,4 +1,4 @@
-//! Kept labels at each position of a world's journal: as they are told for two runs, and beside labels made anew for fifty
+//! Kept labels at each position of a journal: as they are told for two runs, and beside labels made anew for fifty
 //! runs that are drawn.
 #![tactic(auto)]
 
