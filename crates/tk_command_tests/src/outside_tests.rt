@@ -2,10 +2,9 @@
 
 ghost use Rattle.std.specs.Prelude.{Some};
 
-use crate::rows::{whole, words};
+use crate::rows::{carried_out, whole, words};
 use std::alloc::Global;
 use std::test::Fail;
-use tk_commands::plain;
 use tk_edge::{CleanSink, CleanSource, MemSink, MemSource, Miss, Sink};
 use tk_types::{Bytes, List};
 
@@ -50,7 +49,7 @@ fn each_failed_read_is_told(rt: HostRuntime) -> Result<(), Fail> {
     for call in 0..7 {
         let mut source = MemSource::new(wide(alloc)?, List::from_vec(vec![in alloc; call]?));
         let mut sink = CleanSink::new(alloc);
-        let ended = plain(alloc, words.as_slice(), &mut source, &mut sink);
+        let ended = carried_out(alloc, words.as_slice(), &mut source, &mut sink);
         let (status, text) = if call < 5 { (4, "") } else { (0, TEXT) };
         assert_eq!(rt; ended.status, status);
         assert_eq!(rt; sink.bytes(), text.as_bytes());
@@ -69,7 +68,7 @@ fn each_failed_write_is_told(rt: HostRuntime) -> Result<(), Fail> {
             sink: MemSink::new(alloc, List::from_vec(vec![in alloc; call]?)),
         };
         let mut source = CleanSource::new(whole(alloc, INPUT)?);
-        let ended = plain(alloc, words.as_slice(), &mut source, &mut sink);
+        let ended = carried_out(alloc, words.as_slice(), &mut source, &mut sink);
         let front = TEXT.len().min(NARROW * call as usize);
         assert_eq!(rt; ended.status, if call < 5 { 5 } else { 0 });
         assert_eq!(rt; sink.sink.bytes(), &TEXT.as_bytes()[..front]);

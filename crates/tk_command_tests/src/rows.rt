@@ -11,8 +11,8 @@ use std::alloc::{AllocError, Global};
 use std::process::Abort;
 use std::sync::Wait;
 use std::test::Fail;
-use tk_commands::tkn;
-use tk_edge::{CleanHost, Fresh, Host, ManualClock, MemSink, MemSource};
+use tk_commands::{Ended, plain, tkn};
+use tk_edge::{CleanHost, Fresh, Host, ManualClock, MemSink, MemSource, Sink, Source};
 use tk_rounds::{Bench, Controller, Node};
 use tk_types::{Bytes, List, Text};
 
@@ -112,6 +112,30 @@ fn told(alloc: Global, status: u8, printed: &[u8]) -> Result<String, AllocError>
     }
 }
 
+/// What words come to over sources and sinks in memory. What `tkn` promises of it stays here.
+pub(crate) fn ran<T: Wait>(
+    rt: &T,
+    alloc: Global,
+    words: &[Text],
+    source: &mut MemSource,
+    sink: &mut MemSink,
+    bench: &mut Bench<ManualClock, CleanHost, Fresh>,
+) -> Ended
+    requires { IsNewBench (⟦<CleanHost as Host>⟧.told) bench.old }
+{
+    tkn(rt, alloc, words, source, sink, bench)
+}
+
+/// What a command other than `run` and `generate` comes to. What `plain` promises of it stays here.
+pub(crate) fn carried_out<R: Source, W: Sink>(
+    alloc: Global,
+    words: &[Text],
+    source: &mut R,
+    sink: &mut W,
+) -> Ended {
+    plain(alloc, words, source, sink)
+}
+
 /// What words come to with an input, of which a read or a write may fail, as a row tells it.
 pub(crate) fn answered<T: Wait>(
     rt: &T,
@@ -123,7 +147,7 @@ pub(crate) fn answered<T: Wait>(
     let mut source = MemSource::new(input, failing(alloc, "read", fails)?);
     let mut sink = MemSink::new(alloc, failing(alloc, "write", fails)?);
     let mut bench = bench(alloc)?;
-    let ended = tkn(rt, alloc, words, &mut source, &mut sink, &mut bench);
+    let ended = ran(rt, alloc, words, &mut source, &mut sink, &mut bench);
     told(alloc, ended.status, sink.bytes())
 }
 

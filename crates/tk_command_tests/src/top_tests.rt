@@ -1,8 +1,7 @@
 //! Rows of the words of every command, and of reads and writes that fail.
 
-use crate::rows::{bench, rows_hold, words};
+use crate::rows::{bench, ran, rows_hold, words};
 use std::test::Fail;
-use tk_commands::tkn;
 use tk_edge::{MemSink, MemSource};
 use tk_types::{Bytes, List};
 
@@ -112,7 +111,7 @@ fn a_large_manifest_is_simulated(rt: HostRuntime) -> Result<(), Fail> {
     let mut source = MemSource::new(Bytes::from_vec(Vec::new(alloc)), List::new(alloc));
     let mut sink = MemSink::new(alloc, List::new(alloc));
     let mut bench = bench(alloc)?;
-    let ended = tkn(
+    let ended = ran(
         &rt,
         alloc,
         words.as_slice(),

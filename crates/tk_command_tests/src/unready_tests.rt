@@ -1,9 +1,9 @@
 //! What is said beside `ok` of runs and TaskRuns that are admitted and can't start.
 
-use crate::rows::{whole, words};
+use crate::rows::{carried_out, whole, words};
 use std::alloc::{AllocError, Global};
 use std::test::Fail;
-use tk_commands::{Ended, plain};
+use tk_commands::Ended;
 use tk_edge::{CleanSink, CleanSource};
 
 /// A command and its input, and behind `=> ` what is said; rows are parted by an empty line.
@@ -45,7 +45,7 @@ fn said(alloc: Global, line: &str, input: &str) -> Result<String, AllocError> {
         warnings,
         status: _status,
         journal: _journal,
-    } = plain(alloc, words.as_slice(), &mut source, &mut sink);
+    } = carried_out(alloc, words.as_slice(), &mut source, &mut sink);
     match warnings {
         Some(warnings) => Ok(warnings),
         None => String::from_str(alloc, "nothing"),

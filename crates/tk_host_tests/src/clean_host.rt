@@ -54,13 +54,42 @@ fn round(host: &mut CleanHost, first: u64, second: u64, third: u64) -> Result<[W
     Ok([one, two, three])
 }
 
-/// The rounds of watches of a pod of three steps that all end with this exit.
-fn rounds(alloc: Global, exit: u8) -> Result<[[Watch; 3]; 4], Miss> {
+/// A host with a pod of three steps that all end with this exit, and its entries.
+#[derive(Drop)]
+struct Entries {
+    host: CleanHost,
+    first: u64,
+    second: u64,
+    third: u64,
+}
+
+/// The three entries are armed, and nothing was watched yet.
+fn pod(alloc: Global, exit: u8) -> Result<Entries, Miss>
+    ensures first { IfOk result (λ pod. IsArmed pod.first (⟦<CleanHost as Host>⟧.told pod.host)) }
+    ensures second { IfOk result (λ pod. IsArmed pod.second (⟦<CleanHost as Host>⟧.told pod.host)) }
+    ensures third { IfOk result (λ pod. IsArmed pod.third (⟦<CleanHost as Host>⟧.told pod.host)) }
+{
     let mut host = CleanHost::new(alloc, exit);
     host.put("/run/start", b"")?;
     let first = launched(alloc, &mut host, 0, "/run/start", "/run/0")?;
     let second = launched(alloc, &mut host, 1, "/run/0", "/run/1")?;
     let third = launched(alloc, &mut host, 2, "/run/1", "/run/2")?;
+    Ok(Entries {
+        host,
+        first,
+        second,
+        third,
+    })
+}
+
+/// The rounds of watches of such a pod.
+fn rounds(alloc: Global, exit: u8) -> Result<[[Watch; 3]; 4], Miss> {
+    let Entries {
+        mut host,
+        first,
+        second,
+        third,
+    } = pod(alloc, exit)?;
     let one = round(&mut host, first, second, third)?;
     let two = round(&mut host, first, second, third)?;
     let three = round(&mut host, first, second, third)?;

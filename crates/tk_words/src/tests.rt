@@ -5,87 +5,80 @@ use std::alloc::{AllocError, Global};
 use std::test::Fail;
 use tk_types::{List, Text};
 
-/// Words with a blank between each two, and the line that they are. `~` stands for the empty word.
-const ROWS: [(&str, Option<&str>); 72] = [
-    ("", None),
-    ("~", None),
-    ("help", None),
-    ("--help", None),
-    ("-h", None),
-    ("--version", None),
-    ("Check", None),
-    ("checks", None),
-    ("--", None),
-    ("-- check", None),
-    ("--json simulate", None),
-    ("check", Some("check")),
-    ("check ~", None),
-    ("check --", None),
-    ("check --json", None),
-    ("check --help", None),
-    ("check check", None),
-    ("decide", Some("decide")),
-    ("decide --", None),
-    ("decide x", None),
-    ("simulate", Some("simulate")),
-    ("simulate --json", Some("simulate json")),
-    ("simulate --", Some("simulate")),
-    ("simulate --json --", Some("simulate json")),
-    ("simulate -- --json", None),
-    ("simulate --json --json", None),
-    ("simulate --run", None),
-    ("simulate --root /a", None),
-    ("simulate --root=/a", None),
-    ("simulate --help", None),
-    ("simulate -j", None),
-    ("simulate x", None),
-    ("simulate ~", None),
-    ("simulate -- x", None),
-    ("simulate -- --", None),
-    ("run", Some("run")),
-    ("run --json", Some("run json")),
-    ("run --root /a", Some("run root /a")),
-    ("run --root=/a", Some("run root /a")),
-    ("run --root=/a=b", Some("run root /a=b")),
-    ("run --root / --json", Some("run json root /")),
-    ("run --json --root=/a --", Some("run json root /a")),
-    ("run r=Cancelled@10s", Some("run others r=Cancelled@10s")),
-    (
-        "run r=Start@0 --json q=A@1m --root /a -- t=B@5ms",
-        Some("run json root /a others r=Start@0 q=A@1m t=B@5ms"),
-    ),
-    (
-        "run -- --json --root=/a -- -x",
-        Some("run others --json --root=/a -- -x"),
-    ),
-    ("run ~ x ~", Some("run others ~ x ~")),
-    ("run run", Some("run others run")),
-    ("run help", Some("run others help")),
-    ("run --json --json", None),
-    ("run --json x --json", None),
-    ("run --root", None),
-    ("run --root --", None),
-    ("run --root x", None),
-    ("run --root=x", None),
-    ("run --root=", None),
-    ("run --root ~", None),
-    ("run --root --json", None),
-    ("run --root /a --root /b", None),
-    ("run --root=/a --root=/b", None),
-    ("run --root /a --root", None),
-    ("run --run", None),
-    ("run --jsonx", None),
-    ("run --json=true", None),
-    ("run -x", None),
-    ("run -", None),
-    ("generate 1 2", Some("generate others 1 2")),
-    ("generate --run 1 2", Some("generate run others 1 2")),
-    ("generate 1 --run 2", Some("generate run others 1 2")),
-    ("generate 1 2 --run --", Some("generate run others 1 2")),
-    ("generate -- 1 --run", Some("generate others 1 --run")),
-    ("generate --run --run", None),
-    ("generate --json 1 2", None),
-];
+/// Words with a blank between each two, and behind ` => ` the line that they are, or that they are refused. `~` stands for the
+/// empty word.
+const ROWS: &str = " => refused
+~ => refused
+help => refused
+--help => refused
+-h => refused
+--version => refused
+Check => refused
+checks => refused
+-- => refused
+-- check => refused
+--json simulate => refused
+check => check
+check ~ => refused
+check -- => refused
+check --json => refused
+check --help => refused
+check check => refused
+decide => decide
+decide -- => refused
+decide x => refused
+simulate => simulate
+simulate --json => simulate json
+simulate -- => simulate
+simulate --json -- => simulate json
+simulate -- --json => refused
+simulate --json --json => refused
+simulate --run => refused
+simulate --root /a => refused
+simulate --root=/a => refused
+simulate --help => refused
+simulate -j => refused
+simulate x => refused
+simulate ~ => refused
+simulate -- x => refused
+simulate -- -- => refused
+run => run
+run --json => run json
+run --root /a => run root /a
+run --root=/a => run root /a
+run --root=/a=b => run root /a=b
+run --root / --json => run json root /
+run --json --root=/a -- => run json root /a
+run r=Cancelled@10s => run others r=Cancelled@10s
+run r=Start@0 --json q=A@1m --root /a -- t=B@5ms => run json root /a others r=Start@0 q=A@1m t=B@5ms
+run -- --json --root=/a -- -x => run others --json --root=/a -- -x
+run ~ x ~ => run others ~ x ~
+run run => run others run
+run help => run others help
+run --json --json => refused
+run --json x --json => refused
+run --root => refused
+run --root -- => refused
+run --root x => refused
+run --root=x => refused
+run --root= => refused
+run --root ~ => refused
+run --root --json => refused
+run --root /a --root /b => refused
+run --root=/a --root=/b => refused
+run --root /a --root => refused
+run --run => refused
+run --jsonx => refused
+run --json=true => refused
+run -x => refused
+run - => refused
+generate 1 2 => generate others 1 2
+generate --run 1 2 => generate run others 1 2
+generate 1 --run 2 => generate run others 1 2
+generate 1 2 --run -- => generate run others 1 2
+generate -- 1 --run => generate others 1 --run
+generate --run --run => refused
+generate --json 1 2 => refused";
 
 /// The words of a text.
 fn words(alloc: Global, text: &str) -> Result<List<Text>, AllocError> {
@@ -134,15 +127,21 @@ fn text_of(alloc: Global, line: &Line) -> Result<String, AllocError> {
     Ok(text)
 }
 
+/// The line that words are, as a row tells it.
+fn told(alloc: Global, text: &str) -> Result<String, AllocError> {
+    let words = words(alloc, text)?;
+    match read(alloc, words.as_slice())? {
+        Some(line) => text_of(alloc, &line),
+        None => String::from_str(alloc, "refused"),
+    }
+}
+
 #[test]
 fn words_are_read(rt: HostRuntime) -> Result<(), Fail> {
-    let alloc = rt.alloc();
-    for (text, wanted) in ROWS {
-        let words = words(alloc, text)?;
-        match (read(alloc, words.as_slice())?, wanted) {
-            (Some(line), Some(wanted)) => assert_eq!(rt; text_of(alloc, &line)?.as_str(), wanted),
-            (found, wanted) => assert_eq!(rt; found.is_none(), wanted.is_none()),
-        }
+    for row in ROWS.split('\n') {
+        let (text, wanted) = row.split_once(" => ").unwrap_or((row, "no answer"));
+        let told = told(rt.alloc(), text)?;
+        assert_eq!(rt; told.as_str(), wanted, "of {text}");
     }
     Ok(())
 }
