@@ -5,7 +5,7 @@ pub mod CheckExamples
 pub mod FirstFound
 pub mod FittingExamples
 pub mod Gathering
-pub mod GroupFacts
+pub mod IndexFacts
 pub mod KeyFacts
 pub mod Putting
 pub mod Readings

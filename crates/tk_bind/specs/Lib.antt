@@ -3,7 +3,9 @@ pub mod Bind
 pub mod Check
 pub mod Completing
 pub mod Fits
+pub mod Form
 pub mod Found
+pub mod Grouped
 pub mod Lacking
 pub mod Params
 pub mod Readings

@@ -82,7 +82,7 @@ impl Named for SpaceUse {
 }
 
 /// Up to so many things are found without a map.
-const FEW: usize = 16;
+pub(crate) const FEW: usize = 16;
 
 /// Things that are found by their names; of equal names the first counts. A contract sees the things.
 #[derive(Drop)]
@@ -115,6 +115,13 @@ impl<'a, T: Named> FirstNamed<'a, T> {
             Some(first_found(alloc, items)?)
         };
         Ok(FirstNamed { items, found })
+    }
+
+    /// The things.
+    pub(crate) fn items(&self) -> &'a [T]
+        ensures { result.now ≡ self.now }
+    {
+        self.items
     }
 
     /// The first thing of a name.

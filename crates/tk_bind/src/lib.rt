@@ -14,16 +14,17 @@ mod key;
 mod lacking;
 pub mod laws;
 mod lookup;
+mod param_index;
 mod params;
 mod presence;
 mod refusal;
 mod results;
 mod scope;
 mod scope_names;
-mod selector;
 mod status;
 mod substitution;
 mod target;
+mod value_index;
 
 pub use bind::{Sources, bind_params, bound_param, first_value};
 pub use check::check_text;

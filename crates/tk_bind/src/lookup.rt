@@ -1,25 +1,27 @@
 ghost use Rattle.std.specs.Prelude.{◌≡◌, ◌++◌, IfOk, option_map};
-ghost use Rattle.std.specs.Option.{option_copied};
+ghost use Rattle.std.specs.Option.{option_and_then, option_copied};
 ghost use Rattle.tk_types.specs.Value.{value_named, text_at};
 ghost use Rattle.tk_bind.specs.Found.{found_value, meant};
+ghost use Rattle.tk_bind.specs.Selector.{selected};
 ghost use Rattle.tk_bind.specs.Substitute.{result_named, target_value, reference_value};
 
 use crate::env::{Env, Given};
 use crate::found::Found;
 use crate::index::FirstNamed;
 use crate::key::{key_of, key_part};
+use crate::param_index::ParamIndex;
 use crate::results::TaskResults;
-use crate::selector::selected;
 use crate::target::{Target, target_of};
+use crate::value_index::ValueIndex;
 use std::alloc::{AllocError, Global};
 use std::marker::Model;
-use tk_types::{Pair, Param, Text, Value};
-use tk_vars::Reference;
+use tk_types::{Pair, Param, Text};
+use tk_vars::{Part, Reference};
 
 /// Values by name, indexed. A contract sees them as an environment.
 #[derive(Drop)]
 pub struct EnvIndex<'p, 'r, 'w> {
-    params: FirstNamed<'p, Param>,
+    params: ParamIndex<'p>,
     results: TaskResults<'r>,
     words: FirstNamed<'w, Pair>,
 }
@@ -43,30 +45,29 @@ impl<'p, 'r, 'w> EnvIndex<'p, 'r, 'w> {
         ensures { IfOk result (λ index. index ≡ record { params = params.now; results = results.now; words = words.now }) }
     {
         Ok(EnvIndex {
-            params: FirstNamed::new(alloc, params)?,
+            params: ParamIndex::new(alloc, params)?,
             results: TaskResults::new(alloc, results)?,
             words: FirstNamed::new(alloc, words)?,
         })
     }
 
-    /// The value of a parameter.
-    fn param(&self, name: &str) -> Option<&Value>
-        ensures { option_copied result ≡ value_named name.now self.now.params }
+    /// What a selector takes of a parameter's value.
+    fn param_part(
+        &self,
+        alloc: Global,
+        name: &str,
+        selector: &[Part<'_>],
+    ) -> Result<Option<Found<'p>>, AllocError>
+        ensures { IfOk result (λ found. option_map found_value found ≡ option_and_then (selected selector.now) (value_named name.now self.now.params)) }
     {
-        match self.params.get(name) {
-            Some(param) => Some(&param.value),
-            None => None,
-        }
+        self.params.selected(alloc, name, selector)
     }
 
     /// The value of a result of a task.
-    fn task_result(&self, task: &str, name: &str) -> Option<&Value>
+    fn task_result(&self, task: &str, name: &str) -> Option<&ValueIndex<'r>>
         ensures { option_copied result ≡ result_named task.now name.now self.now.results }
     {
-        match self.results.get(task, name) {
-            Some(given) => Some(&given.value),
-            None => None,
-        }
+        self.results.get(task, name)
     }
 
     /// The text of a word.
@@ -123,15 +124,8 @@ impl<'i, 'p, 'r, 'w, 'o> Lookup<'i, 'p, 'r, 'w, 'o> {
         Lookup { index, own }
     }
 
-    /// The value of a parameter.
-    fn param(&self, name: &str) -> Option<&Value>
-        ensures { option_copied result ≡ value_named name.now self.now.params }
-    {
-        self.index.param(name)
-    }
-
     /// The value of a result of a task.
-    pub(crate) fn task_result(&self, task: &str, name: &str) -> Option<&Value>
+    pub(crate) fn task_result(&self, task: &str, name: &str) -> Option<&ValueIndex<'r>>
         ensures { option_copied result ≡ result_named task.now name.now self.now.results }
     {
         self.index.task_result(task, name)
@@ -157,10 +151,7 @@ impl<'i, 'p, 'r, 'w, 'o> Lookup<'i, 'p, 'r, 'w, 'o> {
         match target {
             Target::Param { name, selector } => {
                 let name = key_part(alloc, name)?;
-                match self.param(name.as_str()) {
-                    Some(value) => Ok(selected(selector, value)),
-                    None => Ok(None),
-                }
+                self.index.param_part(alloc, name.as_str(), selector)
             }
             Target::Result {
                 task,
@@ -169,7 +160,7 @@ impl<'i, 'p, 'r, 'w, 'o> Lookup<'i, 'p, 'r, 'w, 'o> {
             } => {
                 let name = key_part(alloc, name)?;
                 match self.task_result(task.as_str(), name.as_str()) {
-                    Some(value) => Ok(selected(selector, value)),
+                    Some(value) => Ok(value.selected(selector)),
                     None => Ok(None),
                 }
             }

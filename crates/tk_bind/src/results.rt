@@ -1,31 +1,33 @@
-ghost use Rattle.std.specs.Prelude.{◌≡◌, ◌&&◌, ℕ, List, [], ◌∷◌, ◌++◌, bytes_eq, cond, filter, find, map, IfOk, OnOk, option_copied};
-ghost use Rattle.std.specs.HashMap.{get_by};
-ghost use Rattle.std.specs.Option.{option_map_or};
+ghost use Rattle.std.specs.Prelude.{◌≡◌, ◌&&◌, ℕ, List, IfOk, OnOk, Some, None, bytes_eq, cond};
+ghost use Rattle.std.specs.Option.{option_copied, option_or};
+ghost use Rattle.tk_bind.specs.Grouped.{grouped_value};
+ghost use Rattle.tk_bind.specs.Substitute.{result_named};
 
 use crate::env::Given;
+use crate::value_index::{ValueIndex, add_named};
 use std::alloc::{AllocError, Global};
 use std::collections::HashMap;
 use std::marker::Model;
 
-/// Results, found by their tasks and then by their names. A contract sees the results.
+/// Results, found by their tasks and then by their names, and the keys of their values by an index. A contract sees the
+/// results.
 #[derive(Drop)]
 pub struct TaskResults<'a> {
     results: &'a [Given],
-    groups: HashMap<&'a str, Vec<&'a Given>>,
+    groups: HashMap<&'a str, HashMap<&'a str, ValueIndex<'a>>>,
 }
 
 impl<'a> Model for TaskResults<'a> {
-    ghost use Rattle.std.specs.Prelude.{◌≡◌, List, [], ℕ, bytes_eq, filter, map};
-    ghost use Rattle.std.specs.Option.{option_map_or};
-    ghost use Rattle.std.specs.HashMap.{get_by};
+    ghost use Rattle.std.specs.Prelude.{◌≡◌, List, ℕ};
     ghost use Rattle.tk_bind.specs.declared.env.Given.{Given};
+    ghost use Rattle.tk_bind.specs.Grouped.{grouped_value};
+    ghost use Rattle.tk_bind.specs.Substitute.{result_named};
 
     ghost Value = { List Given };
 
     ghost view = { λ index. index.results.now };
 
-    ghost invariant = { λ index. (task : List ℕ)
-        → map (λ given. given.now) (option_map_or (λ group. group.items) (get_by (λ k. bytes_eq task k.now) index.groups) []) ≡ filter (λ given. bytes_eq task given.task) index.results.now };
+    ghost invariant = { λ index. (task name : List ℕ) → grouped_value task name index.groups ≡ result_named task name index.results.now };
 }
 
 impl<'a> TaskResults<'a> {
@@ -39,38 +41,31 @@ impl<'a> TaskResults<'a> {
         })
     }
 
-    /// The first result of a task with a name.
-    pub fn get(&self, task: &str, name: &str) -> Option<&'a Given>
-        ensures { option_copied result ≡ find (λ given. bytes_eq given.task task.now && bytes_eq given.name name.now) self.now }
+    /// The value of the first result of a task with a name.
+    pub(crate) fn get(&self, task: &str, name: &str) -> Option<&ValueIndex<'a>>
+        ensures { option_copied result ≡ result_named task.now name.now self.now }
     {
         match self.groups.get(task) {
-            Some(group) => first_named(group.as_slice(), name),
+            Some(group) => group.get(name),
             None => None,
         }
     }
 }
 
-/// The first of some results that has a name.
-fn first_named<'a>(group: &[&'a Given], name: &str) -> Option<&'a Given>
-    ensures { option_copied result ≡ find (λ given. bytes_eq given.name name.now) (map (λ given. given.now) group.now) }
-{
-    for given in group {
-        if given.name.as_str() == name {
-            return Some(*given);
-        }
-    }
-    None
-}
-
-/// Adds a result to those of its task.
+/// Adds a result to those of its task, unless one of its name is there.
 fn add<'a>(
-    groups: &mut HashMap<&'a str, Vec<&'a Given>>,
+    alloc: Global,
+    groups: &mut HashMap<&'a str, HashMap<&'a str, ValueIndex<'a>>>,
     given: &'a Given,
 ) -> Result<(), AllocError>
-    ensures { OnOk result ((task : List ℕ)
-        → option_map_or (λ group. group.items) (get_by (λ k. bytes_eq task k.now) groups.new) [] ≡ option_map_or (λ group. group.items) (get_by (λ k. bytes_eq task k.now) groups.old) [] ++ cond (bytes_eq task given.now.task) (given.entry ∷ []) []) }
+    ensures { OnOk result ((task name : List ℕ)
+        → grouped_value task name groups.new ≡ option_or (grouped_value task name groups.old) (cond (bytes_eq task given.now.task && bytes_eq name given.now.name) (Some given.now.value) None)) }
 {
-    groups.entry(given.task.as_str())?.or_default().push(given)?;
+    let value = ValueIndex::new(alloc, &given.value)?;
+    let group = groups
+        .entry(given.task.as_str())?
+        .or_insert(HashMap::new(alloc));
+    add_named(group, given.name.as_str(), value)?;
     Ok(())
 }
 
@@ -78,13 +73,12 @@ fn add<'a>(
 fn grouped<'a>(
     alloc: Global,
     results: &'a [Given],
-) -> Result<HashMap<&'a str, Vec<&'a Given>>, AllocError>
-    ensures { IfOk result (λ groups. (task : List ℕ)
-        → map (λ given. given.now) (option_map_or (λ group. group.items) (get_by (λ k. bytes_eq task k.now) groups) []) ≡ filter (λ given. bytes_eq task given.task) results.now) }
+) -> Result<HashMap<&'a str, HashMap<&'a str, ValueIndex<'a>>>, AllocError>
+    ensures { IfOk result (λ groups. (task name : List ℕ) → grouped_value task name groups ≡ result_named task name results.now) }
 {
-    let mut groups: HashMap<&'a str, Vec<&'a Given>> = HashMap::new(alloc);
+    let mut groups: HashMap<&'a str, HashMap<&'a str, ValueIndex<'a>>> = HashMap::new(alloc);
     for given in results {
-        add(&mut groups, given)?;
+        add(alloc, &mut groups, given)?;
     }
     Ok(groups)
 }
