@@ -12,6 +12,7 @@ mod TasksDiffer
 mod ValidPipeline
 mod ValidReads
 pub mod AgreedKinds
+pub mod Firsts
 pub mod NoTask
 pub mod PiecesFinding
 pub mod SeenNames

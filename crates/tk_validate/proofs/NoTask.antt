@@ -20,11 +20,11 @@ use Rattle.tk_validate.specs.Finally.{names_no, names_result_of, refused_in_own}
 use Rattle.tk_validate.specs.Named.{read_references}
 
 -- a text without a reading names nothing
-pub none_read : (text : List ℕ) → list_any names_task (references_of text) ≡ false → list_any names_task (read_references text) ≡ false
+pub none_read : (kind : Reference → Bool) (text : List ℕ) → list_any kind (references_of text) ≡ false → list_any kind (read_references text) ≡ false
 unfolding read_references
-none_read text none = by_offset (bad_offset text)
+none_read kind text none = by_offset (bad_offset text)
   where
-    by_offset : (offset : Option ℕ) → list_any names_task (elim offset [ None ↦ references_of text | Some at ↦ [] ]) ≡ false
+    by_offset : (offset : Option ℕ) → list_any kind (elim offset [ None ↦ references_of text | Some at ↦ [] ]) ≡ false
     by_offset None = none
     by_offset (Some at) = refl
 
@@ -50,14 +50,14 @@ none_in_own lasts true r none = no_result_of lasts r none
 none_in_own lasts false r none = rw (no_status r.parts none, no_result_of lasts r none) refl
 
 -- a text names none of such a kind
-any_of_kind : (kind : Reference → Bool) → ((r : Reference) → names_task r ≡ false → kind r ≡ false) → (references : List Reference) → list_any names_task references ≡ false → list_any kind references ≡ false
+pub any_of_kind : (kind : Reference → Bool) → ((r : Reference) → names_task r ≡ false → kind r ≡ false) → (references : List Reference) → list_any names_task references ≡ false → list_any kind references ≡ false
 any_of_kind kind of_tasks [] none = refl
 any_of_kind kind of_tasks (r ∷ rs) none =
     rw (of_tasks r (or_first (names_task r) (list_any names_task rs) none)) (any_of_kind kind of_tasks rs (or_second (names_task r) (list_any names_task rs) none))
 
-pub none_of_kind : (kind : Reference → Bool) → ((r : Reference) → names_task r ≡ false → kind r ≡ false) → (whole : Bool) (at : Place) (text : List ℕ) → list_any names_task (read_references text) ≡ false → names_no kind whole at text ≡ None
+pub none_of_kind : (kind : Reference → Bool) (whole : Bool) (at : Place) (text : List ℕ) → list_any kind (references_of text) ≡ false → names_no kind whole at text ≡ None
 unfolding names_no
-none_of_kind kind of_tasks whole at text none = rw (any_of_kind kind of_tasks (read_references text) none) refl
+none_of_kind kind whole at text none = rw (none_read kind text none) refl
 
 -- a text takes no result
 not_taken : (names : List (List ℕ)) (r : Reference) → names_task r ≡ false → taken_in_part names r ≡ None

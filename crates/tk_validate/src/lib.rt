@@ -5,42 +5,25 @@
 //! there are, in an order (law `valid_pipeline`).
 #![tactic(auto)]
 
-mod agreed;
-mod conflicts;
-mod context;
-mod cycle;
-mod entry;
-mod finally;
 pub mod laws;
-mod layers;
 mod name_set;
 mod named;
-mod names;
-mod outside;
-mod references;
+mod parts;
 mod rule;
-mod scope;
+mod rules;
 mod seen;
 mod sited;
-mod sizes;
-mod step_texts;
-mod task_seen;
-mod text_rule;
-mod texts;
-mod timeouts;
-mod types;
 mod validating;
-mod workspaces;
 
-pub use conflicts::check_conflicts;
-pub use cycle::check_cycles;
-pub use finally::check_finally;
-pub use names::check_names;
-pub use rule::{Rule, check_all, check_each, check_there, told};
+pub use rule::{Checked, Rule, check_all, check_each, check_there, told};
+pub use rules::conflicts::check_conflicts;
+pub use rules::cycle::check_cycles;
+pub use rules::finally::check_finally;
+pub use rules::names::check_names;
+pub use rules::sizes::check_sizes;
+pub use rules::texts::check_texts;
+pub use rules::timeouts::check_timeouts;
+pub use rules::types::check_types;
+pub use rules::workspaces::check_workspaces;
 pub use seen::Seen;
-pub use sizes::check_sizes;
-pub use texts::check_texts;
-pub use timeouts::check_timeouts;
-pub use types::check_types;
 pub use validating::validate;
-pub use workspaces::check_workspaces;

@@ -1,4 +1,4 @@
-ghost use Rattle.std.specs.Prelude.{◌≡◌, [], None, false, filter_map, IfOk, IsTrue, option_and_then};
+ghost use Rattle.std.specs.Prelude.{◌≡◌, [], None, false, filter_map, IfOk, IsTrue, option_and_then, option_copied};
 ghost use Rattle.std.specs.List.{list_any};
 ghost use Rattle.std.specs.Option.{option_map_or};
 ghost use Rattle.tk_vars.specs.Target.{referenced, whole_of};
@@ -28,5 +28,18 @@ pub(crate) fn read(alloc: Global, text: &str) -> Result<Option<Pieces<'_>>, Allo
         Ok(pieces) => Ok(Some(pieces)),
         Err(ScanError::BadReference { .. }) => Ok(None),
         Err(ScanError::Memory) => Err(AllocError),
+    }
+}
+
+/// The reference that is all of some pieces and ends with `[*]`.
+pub(crate) fn whole_of<'p, 't>(pieces: &'p [Piece<'t>]) -> Option<&'p Reference<'t>>
+    ensures { option_copied result ≡ whole_of pieces.now }
+{
+    match pieces {
+        [only] => match only {
+            Piece::Ref(reference) if reference.parts.ends_with_star() => Some(reference),
+            _ => None,
+        },
+        _ => None,
     }
 }

@@ -1,13 +1,16 @@
-ghost use Rattle.std.specs.Prelude.{◌≡◌, [], ◌∷◌, Some};
-ghost use Rattle.std.specs.List.{list_any};
+ghost use Rattle.std.specs.Prelude.{◌≡◌, [], ◌∷◌, Some, IfOk};
+ghost use Rattle.tk_types.specs.declared.fault.Detail.TheVariants.{Names as NamesTold};
 ghost use Rattle.tk_types.specs.Fault.{fault};
-ghost use Rattle.tk_types.specs.First.{first_in, first_of, first_if_there};
+ghost use Rattle.tk_types.specs.First.{first_in, first_if_there};
 ghost use Rattle.tk_types.specs.Place.{◌▸◌};
 ghost use Rattle.tk_types.specs.Rejected.{IsRefusal, Reads};
 
-use std::alloc::Global;
+use std::alloc::{AllocError, Global};
 use tk_fields::{Location, place_at};
-use tk_types::{Detail, Fault, Place, Rejected};
+use tk_types::{Detail, Fault, List, Rejected, Text};
+
+/// What a rule returns: that nothing is wrong, or what is wrong first. The only other error is want of memory.
+pub type Checked = Result<(), Rejected>;
 
 /// A rule on parts of an object: what is wrong first with a part at its place.
 pub trait Rule<P> {
@@ -17,7 +20,7 @@ pub trait Rule<P> {
     ghost finding: { Self → Place → P → Finding };
 
     /// Refuses a part with which something is wrong. The only other error is want of memory.
-    fn check(&self, alloc: Global, part: &P, place: &Location<'_>) -> Result<(), Rejected>
+    fn check(&self, alloc: Global, part: &P, place: &Location<'_>) -> Checked
         ensures { Reads (finding self.now place.now part.now) tt result };
 }
 
@@ -27,7 +30,7 @@ pub fn check_each<P, R: Rule<P>>(
     rule: &R,
     parts: &[P],
     place: &Location<'_>,
-) -> Result<(), Rejected>
+) -> Checked
     ensures { Reads (first_in (R.finding rule.now) place.now parts.now) tt result }
 {
     for (index, part) in parts.iter().enumerate() {
@@ -43,7 +46,7 @@ pub fn check_all<P, R: Rule<P>>(
     parts: &[P],
     place: &Location<'_>,
     key: &str,
-) -> Result<(), Rejected>
+) -> Checked
     ensures { Reads (first_in (R.finding rule.now) (place.now ▸ key.now) parts.now) tt result }
 {
     match parts {
@@ -59,7 +62,7 @@ pub fn check_there<P, R: Rule<P>>(
     part: &Option<P>,
     place: &Location<'_>,
     key: &str,
-) -> Result<(), Rejected>
+) -> Checked
     ensures { Reads (first_if_there (R.finding rule.now (place.now ▸ key.now)) part.now) tt result }
 {
     match part {
@@ -78,6 +81,25 @@ pub fn told(alloc: Global, number: u8, place: &Location<'_>, detail: Detail) -> 
             place,
             detail,
         }),
+        Err(_) => Rejected::Memory,
+    }
+}
+
+/// A detail of one name.
+fn one_name(alloc: Global, name: &str) -> Result<Detail, AllocError>
+    ensures { IfOk result (λ detail. detail ≡ NamesTold (name.now ∷ [])) }
+{
+    let mut names = List::new(alloc);
+    names.push(Text::from_str(alloc, name)?)?;
+    Ok(Detail::Names(names))
+}
+
+/// A fault about one name.
+pub(crate) fn told_name(alloc: Global, number: u8, place: &Location<'_>, name: &str) -> Rejected
+    ensures { IsRefusal (Some (fault number place.now (NamesTold (name.now ∷ [])))) result }
+{
+    match one_name(alloc, name) {
+        Ok(detail) => told(alloc, number, place, detail),
         Err(_) => Rejected::Memory,
     }
 }

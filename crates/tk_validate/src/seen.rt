@@ -1,6 +1,12 @@
 ghost use Rattle.std.specs.Prelude.{◌≡◌};
 ghost use Rattle.tk_validate.specs.Seen.{is_of_name, kind_seen};
 
+pub(crate) mod context;
+pub(crate) mod layers;
+pub(crate) mod outside;
+pub(crate) mod scope;
+pub(crate) mod task_seen;
+
 use std::alloc::{AllocError, Global};
 use tk_bind::{FirstNamed, Named};
 use tk_types::{ParamType, Text, TryCopy};

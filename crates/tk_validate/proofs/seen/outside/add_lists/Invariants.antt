@@ -1,0 +1,7 @@
+use Rattle.std.proofs.Common.{◌≡◌, ◌++◌, drop}
+use Rattle.tk_validate.specs.Seen.{lists_seen}
+use Rattle.tk_validate.proofs.seen.outside.add_lists.Given as goal
+
+-- what is made so far, and what those that are left give, are the whole
+abbrev pub invariant-loop-param : goal.invariant-loop-param
+invariant-loop-param l = l.made ++ lists_seen (drop l.param-index l.params) ≡ l.initial.made ++ lists_seen l.params

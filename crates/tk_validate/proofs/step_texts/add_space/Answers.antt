@@ -1,6 +1,0 @@
-use Rattle.tk_validate.proofs.StepWords.{three_pushed}
-use Rattle.tk_validate.proofs.step_texts.add_space.Goals as goal
-
-pub returns : goal.returns
-returns c =
-    three_pushed c.args.words.now _ _ _ _ _ _ _ _ _ c.in_ok-push.ensures.ok c.in_ok-push-2.ensures.ok c.in_ok-push-3.ensures.ok c.in_ok-name_around.ensures c.in_ok-name_around-2.ensures c.in_ok-name_around-3.ensures

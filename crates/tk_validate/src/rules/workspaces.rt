@@ -1,0 +1,74 @@
+ghost use Rattle.std.specs.Prelude.{◌≡◌, IfOk};
+ghost use Rattle.tk_types.specs.Rejected.{Reads};
+ghost use Rattle.tk_validate.specs.Workspaces.{is_declared, names_of_spaces, pipeline_hands_on, task_hands_on, undeclared_workspaces};
+
+use crate::name_set::NameSet;
+use crate::parts::{TaskRule, check_pipeline, check_tasks};
+use crate::rule::{Checked, Rule, check_all};
+use std::alloc::{AllocError, Global};
+use tk_fields::{Location, refusal};
+use tk_types::{ItemObject, PipelineSpec, PipelineTask, SpaceSpec, SpaceUse};
+
+/// The names of workspaces.
+fn names_of<'a>(alloc: Global, spaces: &'a [SpaceSpec]) -> Result<NameSet<'a>, AllocError>
+    ensures { IfOk result (λ names. names ≡ names_of_spaces spaces.now) }
+{
+    let mut names = NameSet::new(alloc);
+    for space in spaces {
+        names.add(space.name.as_str())?;
+    }
+    Ok(names)
+}
+
+/// Workspaces that are handed on, each of which has one of the names.
+#[derive(Drop)]
+struct HandedOn<'n, 'a> {
+    names: &'n NameSet<'a>,
+}
+
+impl<'n, 'a> Rule<SpaceUse> for HandedOn<'n, 'a> {
+    ghost finding = { λ rule. is_declared rule.names.now };
+
+    fn check(&self, alloc: Global, handed: &SpaceUse, place: &Location<'_>) -> Checked {
+        if !self.names.contains(handed.from.as_str()) {
+            return Err(refusal(alloc, 11, place));
+        }
+        Ok(())
+    }
+}
+
+impl<'n, 'a> TaskRule for HandedOn<'n, 'a> {
+    ghost of_task = { λ rule. task_hands_on rule.names.now };
+
+    #[tactic(auto, unfolding(crate::specs::Workspaces::task_hands_on))]
+    fn check_task(
+        &self,
+        alloc: Global,
+        _is_last: bool,
+        task: &PipelineTask,
+        place: &Location<'_>,
+    ) -> Checked {
+        check_all(alloc, self, task.spaces.as_slice(), place, "workspaces")
+    }
+}
+
+/// Pipelines, by the workspaces that their tasks hand on.
+#[derive(Drop)]
+struct Declared;
+
+impl Rule<PipelineSpec> for Declared {
+    ghost finding = { λ rule. pipeline_hands_on };
+
+    #[tactic(auto, unfolding(crate::specs::Workspaces::pipeline_hands_on))]
+    fn check(&self, alloc: Global, spec: &PipelineSpec, place: &Location<'_>) -> Checked {
+        let names = names_of(alloc, spec.spaces.as_slice())?;
+        check_tasks(alloc, &HandedOn { names: &names }, spec, place)
+    }
+}
+
+/// Refuses the first workspace that a pipeline's task hands on and the pipeline doesn't declare.
+pub fn check_workspaces(alloc: Global, object: &ItemObject, place: &Location<'_>) -> Checked
+    ensures { Reads (undeclared_workspaces place.now object.now) tt result }
+{
+    check_pipeline(alloc, &Declared, object, place)
+}
