@@ -209,7 +209,7 @@ fn take_next<'a>(
 {
     let run = take(alloc, before, &*earlier, item)?;
     push_run(runs, run)?;
-    earlier.add(item)?;
+    earlier.add(alloc, item)?;
     Ok(())
 }
 

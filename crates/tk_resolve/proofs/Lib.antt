@@ -1,14 +1,17 @@
+pub mod Asked
 pub mod BodiesRead
 pub mod EarlyParams
 pub mod Examples
 pub mod Found
 pub mod FoundPipeline
 pub mod Gathered
+pub mod Judged
 pub mod LookedUp
 pub mod Misused
 pub mod ParamsAlone
 pub mod PassedOver
 pub mod Readings
 pub mod ResolvedRuns
+pub mod Sources
 pub mod Started
 pub mod Zipped

@@ -72,3 +72,11 @@ is_due due string = true
 is_due Element array = true
 is_due AnyValue kind = true
 is_due due kind = false
+
+-- each value that is due here is due where that is
+abbrev pub is_as_strict : Due → Due → Bool
+is_as_strict OneText other = true
+is_as_strict Element OneText = false
+is_as_strict Element other = true
+is_as_strict AnyValue AnyValue = true
+is_as_strict AnyValue other = false

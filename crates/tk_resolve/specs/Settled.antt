@@ -34,7 +34,11 @@ early_params task = filter (λ p. not (is_late p)) task.params
 abbrev pub late_names : PipelineTask → List (List ℕ)
 late_names task = map (λ (p : Param). p.name) (filter is_late task.params)
 
--- the combinations of early parameters and a matrix; more than 256 are refused elsewhere, and not judged
+-- how many combinations are judged; more than 256 are refused elsewhere, and not judged
+abbrev pub judged_count : Option Matrix → ℕ
+judged_count matrix = if nat_le (task_combination_count matrix) 256 then task_combination_count matrix else 0
+
+-- the combinations of early parameters and a matrix that are judged
 abbrev pub judged_combinations : List Param → Option Matrix → List (List Param)
 judged_combinations early matrix = if nat_le (task_combination_count matrix) 256 then task_combinations early matrix else []
 

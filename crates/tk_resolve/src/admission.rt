@@ -1,4 +1,4 @@
-ghost use Rattle.std.specs.Prelude.{◌≡◌, ◌||◌, [], All, IfOk};
+ghost use Rattle.std.specs.Prelude.{◌≡◌, ◌||◌, [], All, Some, IfOk};
 ghost use Rattle.std.specs.List.{list_any};
 ghost use Rattle.tk_types.specs.declared.task.PipelineTask.{PipelineTask as TaskRecord};
 ghost use Rattle.tk_types.specs.declared.task.TaskBody.{TaskBody as BodyRecord};
@@ -6,10 +6,12 @@ ghost use Rattle.tk_bind.specs.Readings.{ReadsParams, ReadsPipelineTask, ReadsTa
 ghost use Rattle.tk_resolve.specs.Due.{task_dues};
 ghost use Rattle.tk_resolve.specs.Misuse.{any_lacks};
 ghost use Rattle.tk_resolve.specs.Run.{env_with, results_lack, task_lacks, task_words};
+ghost use Rattle.tk_resolve.specs.TaskRun.{spec_of};
 ghost use Rattle.tk_resolve.specs.Values.{all_values, has_missing};
 
 use crate::beside::all_fit;
 use crate::due::{result_dues, task_dues};
+use crate::lookup::Earlier;
 use crate::misuse::Declarer;
 use crate::questions::any_lacks;
 use crate::spec::pipeline_name;
@@ -80,7 +82,13 @@ impl<'a> Admission<'a> {
     }
 
     /// Whether a text of a task takes of a parameter what isn't there or isn't due, or a known combination doesn't fit.
-    fn task_lacks(&self, alloc: Global, declarer: &Declarer<'_>) -> Result<bool, AllocError>
+    fn task_lacks(
+        &self,
+        alloc: Global,
+        earlier: &Earlier<'_>,
+        declarer: &Declarer<'_>,
+    ) -> Result<bool, AllocError>
+        requires source { spec_of earlier.now declarer.now.0.source ≡ Some declarer.now.1.spec }
         requires task { ReadsPipelineTask declarer.now.0 }
         requires body { ReadsTaskSpec declarer.now.1.spec }
         ensures { IfOk result (λ lacks. lacks ≡ task_lacks self.now.0 self.now.1 declarer.now) }
@@ -91,17 +99,23 @@ impl<'a> Admission<'a> {
         if texts_lack(alloc, &lookup, task)? {
             return Ok(true);
         }
-        Ok(!all_fit(alloc, &lookup, task, declarer.body())?)
+        Ok(!all_fit(alloc, earlier, &lookup, task, declarer.body())?)
     }
 
     /// Whether this holds of some task.
-    fn tasks_lack(&self, alloc: Global, tasks: &[Declarer<'_>]) -> Result<bool, AllocError>
+    fn tasks_lack(
+        &self,
+        alloc: Global,
+        earlier: &Earlier<'_>,
+        tasks: &[Declarer<'_>],
+    ) -> Result<bool, AllocError>
+        requires sources { All (λ t. spec_of earlier.now t.0.source ≡ Some t.1.spec) tasks.now }
         requires tasks { All (λ t. ReadsPipelineTask t.0) tasks.now }
         requires bodies { All (λ t. ReadsTaskSpec t.1.spec) tasks.now }
         ensures { IfOk result (λ lack. lack ≡ list_any (task_lacks self.now.0 self.now.1) tasks.now) }
     {
         for declarer in tasks {
-            if self.task_lacks(alloc, declarer)? {
+            if self.task_lacks(alloc, earlier, declarer)? {
                 return Ok(true);
             }
         }
@@ -123,8 +137,10 @@ impl<'a> Admission<'a> {
     pub(crate) fn lacks_parameter(
         &self,
         alloc: Global,
+        earlier: &Earlier<'_>,
         tasks: &[Declarer<'_>],
     ) -> Result<bool, AllocError>
+        requires sources { All (λ t. spec_of earlier.now t.0.source ≡ Some t.1.spec) tasks.now }
         requires tasks { All (λ t. ReadsPipelineTask t.0) tasks.now }
         requires bodies { All (λ t. ReadsTaskSpec t.1.spec) tasks.now }
         requires results { ReadsParams self.now.1.results }
@@ -134,7 +150,7 @@ impl<'a> Admission<'a> {
         if has_missing(alloc, wanted, self.run.params.as_slice())? {
             return Ok(true);
         }
-        if self.tasks_lack(alloc, tasks)? {
+        if self.tasks_lack(alloc, earlier, tasks)? {
             return Ok(true);
         }
         self.results_lack(alloc)

@@ -4,9 +4,12 @@
 #![tactic(auto)]
 
 mod admission;
+mod asks;
 mod beside;
 mod bodies;
+mod body_asks;
 mod due;
+mod known_task;
 pub mod laws;
 mod lookup;
 mod misuse;

@@ -3,6 +3,7 @@ ghost use Rattle.std.specs.Option.{option_or};
 ghost use Rattle.std.specs.HashMap.{get_by};
 ghost use Rattle.tk_resolve.specs.Lookup.{as_pipeline, as_task, pipeline_named, task_named, value_if};
 
+use crate::known_task::KnownTask;
 use std::alloc::{AllocError, Global};
 use std::collections::HashMap;
 use std::marker::Model;
@@ -13,7 +14,7 @@ use tk_types::{Item, ItemObject, PipelineSpec, TaskSpec};
 #[derive(Drop)]
 pub struct Earlier<'a> {
     items: Vec<&'a Item>,
-    tasks: HashMap<&'a str, &'a TaskSpec>,
+    tasks: HashMap<&'a str, KnownTask<'a>>,
     pipelines: HashMap<&'a str, &'a PipelineSpec>,
 }
 
@@ -28,7 +29,7 @@ impl<'a> Model for Earlier<'a> {
     ghost view = { λ earlier. map (λ item. item.now) earlier.items.items };
 
     ghost invariant = { λ earlier. ((name : Items ℕ)
-        → option_map (λ spec. spec.now) (get_by (λ k. bytes_eq name k.now) earlier.tasks) ≡ task_named (map (λ item. item.now) earlier.items.items) name)
+        → get_by (λ k. bytes_eq name k.now) earlier.tasks ≡ task_named (map (λ item. item.now) earlier.items.items) name)
         × ((name : Items ℕ)
         → option_map (λ spec. spec.now) (get_by (λ k. bytes_eq name k.now) earlier.pipelines) ≡ pipeline_named (map (λ item. item.now) earlier.items.items) name) };
 }
@@ -45,24 +46,35 @@ impl<'a> Earlier<'a> {
         }
     }
 
-    /// Adds the object that stands next. The only error is want of memory, and nothing is added then.
-    pub fn add(&mut self, item: &'a Item) -> Result<(), AllocError>
+    /// Adds the object that stands next; of a Task what its texts ask is found. The only error is want of memory, and
+    /// nothing is added then.
+    pub fn add(&mut self, alloc: Global, item: &'a Item) -> Result<(), AllocError>
         ensures added { OnOk result (self.new ≡ self.old ++ item.now ∷ []) }
         ensures kept { OnErr result (self.new ≡ self.old) }
     {
         self.items.push(item)?;
-        if let Err(error) = add_object(&mut self.tasks, &mut self.pipelines, &item.object) {
+        if let Err(error) = add_object(alloc, &mut self.tasks, &mut self.pipelines, &item.object) {
             self.items.pop();
             return Err(error);
         }
         Ok(())
     }
 
-    /// The Task of a name.
+    /// The Task of a name, with what its texts ask.
+    pub(crate) fn known_task(&self, name: &str) -> Option<&KnownTask<'a>>
+        ensures { option_copied result ≡ task_named self.now name.now }
+    {
+        self.tasks.get(name)
+    }
+
+    /// The spec of the Task of a name.
     pub(crate) fn task(&self, name: &str) -> Option<&'a TaskSpec>
         ensures { option_copied result ≡ task_named self.now name.now }
     {
-        self.tasks.get(name).copied()
+        match self.known_task(name) {
+            Some(task) => Some(task.spec()),
+            None => None,
+        }
     }
 
     /// The Pipeline of a name.
@@ -73,44 +85,41 @@ impl<'a> Earlier<'a> {
     }
 }
 
-/// Adds a spec under a name, unless the name is there.
-fn add_named<'a, T>(
-    found: &mut HashMap<&'a str, &'a T>,
+/// Adds a thing under a name, unless the name is there.
+fn add_named<'a, T: Drop>(
+    found: &mut HashMap<&'a str, T>,
     name: &'a str,
-    spec: &'a T,
+    thing: T,
 ) -> Result<(), AllocError>
-    ensures added { OnOk result ((wanted : List ℕ)
-        → option_map (λ spec. spec.now) (get_by (λ k. bytes_eq wanted k.now) found.new)
-        ≡ option_or (option_map (λ spec. spec.now) (get_by (λ k. bytes_eq wanted k.now) found.old)) (cond (bytes_eq wanted name.now) (Some spec.now) None)) }
-    ensures kept { OnErr result ((wanted : List ℕ)
-        → option_map (λ spec. spec.now) (get_by (λ k. bytes_eq wanted k.now) found.new)
-        ≡ option_map (λ spec. spec.now) (get_by (λ k. bytes_eq wanted k.now) found.old)) }
+    ensures added { OnOk result ((wanted : List ℕ) → get_by (λ k. bytes_eq wanted k.now) found.new
+        ≡ option_or (get_by (λ k. bytes_eq wanted k.now) found.old) (cond (bytes_eq wanted name.now) (Some thing) None)) }
+    ensures kept { OnErr result ((wanted : List ℕ) → get_by (λ k. bytes_eq wanted k.now) found.new ≡ get_by (λ k. bytes_eq wanted k.now) found.old) }
 {
-    found.entry(name)?.or_insert(spec);
+    found.entry(name)?.or_insert(thing);
     Ok(())
 }
 
 /// Adds a Task or a Pipeline, unless there is one of its name.
 fn add_object<'a>(
-    tasks: &mut HashMap<&'a str, &'a TaskSpec>,
+    alloc: Global,
+    tasks: &mut HashMap<&'a str, KnownTask<'a>>,
     pipelines: &mut HashMap<&'a str, &'a PipelineSpec>,
     object: &'a ItemObject,
 ) -> Result<(), AllocError>
-    ensures task { OnOk result ((wanted : List ℕ)
-        → option_map (λ spec. spec.now) (get_by (λ k. bytes_eq wanted k.now) tasks.new)
-        ≡ option_or (option_map (λ spec. spec.now) (get_by (λ k. bytes_eq wanted k.now) tasks.old)) (value_if wanted (as_task object.now))) }
+    ensures task { OnOk result ((wanted : List ℕ) → get_by (λ k. bytes_eq wanted k.now) tasks.new
+        ≡ option_or (get_by (λ k. bytes_eq wanted k.now) tasks.old) (value_if wanted (as_task object.now))) }
     ensures pipeline { OnOk result ((wanted : List ℕ)
         → option_map (λ spec. spec.now) (get_by (λ k. bytes_eq wanted k.now) pipelines.new)
         ≡ option_or (option_map (λ spec. spec.now) (get_by (λ k. bytes_eq wanted k.now) pipelines.old)) (value_if wanted (as_pipeline object.now))) }
-    ensures tasks_kept { OnErr result ((wanted : List ℕ)
-        → option_map (λ spec. spec.now) (get_by (λ k. bytes_eq wanted k.now) tasks.new)
-        ≡ option_map (λ spec. spec.now) (get_by (λ k. bytes_eq wanted k.now) tasks.old)) }
+    ensures tasks_kept { OnErr result ((wanted : List ℕ) → get_by (λ k. bytes_eq wanted k.now) tasks.new ≡ get_by (λ k. bytes_eq wanted k.now) tasks.old) }
     ensures pipelines_kept { OnErr result ((wanted : List ℕ)
         → option_map (λ spec. spec.now) (get_by (λ k. bytes_eq wanted k.now) pipelines.new)
         ≡ option_map (λ spec. spec.now) (get_by (λ k. bytes_eq wanted k.now) pipelines.old)) }
 {
     match object {
-        ItemObject::Task { name, spec } => add_named(tasks, name.as_str(), spec),
+        ItemObject::Task { name, spec } => {
+            add_named(tasks, name.as_str(), KnownTask::new(alloc, spec)?)
+        }
         ItemObject::Pipeline { name, spec } => add_named(pipelines, name.as_str(), spec),
         _ => Ok(()),
     }

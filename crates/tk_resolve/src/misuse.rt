@@ -11,7 +11,7 @@ use crate::uses::{Question, any_use};
 use std::alloc::{AllocError, Global};
 use std::marker::Model;
 use tk_bind::{FirstNamed, Named, Target, key_part, suits, target_of};
-use tk_types::{ParamType, PipelineSpec, PipelineTask, ResultSpec, TaskBody, Text};
+use tk_types::{ParamType, PipelineSpec, PipelineTask, ResultSpec, TaskBody};
 use tk_vars::{Part, Reference, names_no_task};
 
 /// A task with its body, whose results are found by their names. A contract sees the task and the body.
@@ -205,7 +205,7 @@ impl<'l, 'e, 'a> Question for Misuses<'l, 'e, 'a> {
 pub(crate) fn any_misuse(
     alloc: Global,
     tasks: &FirstNamed<'_, Declarer<'_>>,
-    texts: &[(Due, &Text)],
+    texts: &[(Due, &str)],
 ) -> Result<bool, AllocError>
     requires { All (λ t. HasReading t.1.now) texts.now }
     ensures { IfOk result (λ any. any ≡ any_misuse tasks.now (seen texts.now)) }

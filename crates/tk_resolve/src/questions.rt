@@ -120,7 +120,7 @@ pub(crate) fn any_lacks(
     alloc: Global,
     lookup: &Lookup,
     spared: &FirstNamed<'_, Text>,
-    texts: &[(Due, &Text)],
+    texts: &[(Due, &str)],
 ) -> Result<bool, AllocError>
     requires { All (λ t. HasReading t.1.now) texts.now }
     ensures { IfOk result (λ any. any ≡ any_lacks lookup.now spared.now (seen texts.now)) }

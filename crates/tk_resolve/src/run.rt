@@ -1,9 +1,9 @@
-ghost use Rattle.std.specs.Prelude.{◌≡◌, All, IfOk};
+ghost use Rattle.std.specs.Prelude.{◌≡◌, All, Some, IfOk};
 ghost use Rattle.tk_types.specs.declared.object.Item.{Item as I};
 ghost use Rattle.tk_types.specs.declared.task.TaskBody.{TaskBody as BodyRecord};
 ghost use Rattle.tk_bind.specs.Readings.{ReadsObject, ReadsPipelineSource, ReadsPipelineSpec, ReadsTaskSpec};
 ghost use Rattle.tk_resolve.specs.declared.reason.Reason.TheVariants.{CouldntGetPipeline};
-ghost use Rattle.tk_resolve.specs.Run.{resolved_run, run_with_bodies, run_with_pipeline, unstartable};
+ghost use Rattle.tk_resolve.specs.Run.{bodies_of, resolved_run, run_with_bodies, run_with_pipeline, unstartable};
 
 use crate::bodies::bodies_of;
 use crate::lookup::Earlier;
@@ -17,16 +17,19 @@ use tk_types::{List, PipelineSpec, RunObject, RunSpec, TaskBody, TryCopy};
 /// A run whose Pipeline and Tasks are found: it can start unless there is a reason.
 fn run_with_bodies(
     alloc: Global,
+    earlier: &Earlier<'_>,
     run: &RunObject,
     pipeline: &PipelineSpec,
     bodies: List<TaskBody>,
 ) -> Result<RunSpec, AllocError>
+    requires found { bodies_of earlier.now run.now pipeline.now ≡ Some bodies }
     requires pipeline { ReadsPipelineSpec pipeline.now }
     requires bodies { All (λ (body : BodyRecord). ReadsTaskSpec body.spec) bodies }
     ensures { IfOk result (λ spec. spec ≡ run_with_bodies run.now pipeline.now bodies) }
 {
     let params = all_values(alloc, pipeline.params.as_slice(), run.params.as_slice())?;
-    match first_reason(alloc, run, pipeline, bodies.as_slice(), params.as_slice())? {
+    let values = params.as_slice();
+    match first_reason(alloc, earlier, run, pipeline, bodies.as_slice(), values)? {
         Some(reason) => unstartable(alloc, run, params, reason),
         None => startable(alloc, run, pipeline, params, bodies),
     }
@@ -44,7 +47,7 @@ fn run_with_pipeline(
     ensures { IfOk result (λ spec. spec ≡ run_with_pipeline earlier.now run.now pipeline.now) }
 {
     match bodies_of(alloc, earlier, run, pipeline)? {
-        Some(bodies) => run_with_bodies(alloc, run, pipeline, bodies),
+        Some(bodies) => run_with_bodies(alloc, earlier, run, pipeline, bodies),
         None => {
             let params = all_values(alloc, pipeline.params.as_slice(), run.params.as_slice())?;
             unstartable(alloc, run, params, Reason::CouldntGetTask)

@@ -1,16 +1,17 @@
-ghost use Rattle.std.specs.Prelude.{◌≡◌, ◌++◌, All, IfOk, flat_map};
+ghost use Rattle.std.specs.Prelude.{◌≡◌, ◌++◌, All, Some, IfOk, flat_map};
 ghost use Rattle.std.specs.List.{list_any};
 ghost use Rattle.tk_types.specs.declared.task.TaskBody.{TaskBody as BodyRecord};
 ghost use Rattle.tk_bind.specs.Readings.{ReadsPipelineSpec, ReadsPipelineTask, ReadsTaskSpec};
 ghost use Rattle.tk_resolve.specs.declared.due.Due.TheVariants.{AnyValue};
 ghost use Rattle.tk_resolve.specs.Due.{params_dues, task_dues};
 ghost use Rattle.tk_resolve.specs.Misuse.{any_misuse};
-ghost use Rattle.tk_resolve.specs.Run.{all_tasks, first_reason, lacks_parameter, lacks_workspace, misuses_result};
+ghost use Rattle.tk_resolve.specs.Run.{all_tasks, bodies_of, first_reason, lacks_parameter, lacks_workspace, misuses_result};
 ghost use Rattle.tk_resolve.specs.Spaces.{has_unbound};
 ghost use Rattle.tk_resolve.specs.Values.{all_values, has_mismatch};
 
 use crate::admission::Admission;
 use crate::due::{result_dues, task_dues};
+use crate::lookup::Earlier;
 use crate::misuse::{Declarer, any_misuse, declarers};
 use crate::reason::Reason;
 use crate::spaces::has_unbound;
@@ -145,12 +146,14 @@ impl<'a> Candidate<'a> {
     }
 
     /// Whether a needed parameter is missing.
-    fn lacks_parameter(&self, alloc: Global) -> Result<bool, AllocError>
+    fn lacks_parameter(&self, alloc: Global, earlier: &Earlier<'_>) -> Result<bool, AllocError>
+        requires found { bodies_of earlier.now self.now.0 self.now.1 ≡ Some self.now.2 }
         requires pipeline { ReadsPipelineSpec self.now.1 }
         requires bodies { All (λ (body : BodyRecord). ReadsTaskSpec body.spec) self.now.2 }
         ensures { IfOk result (λ lacks. lacks ≡ lacks_parameter self.now.0 self.now.1 self.now.2) }
     {
-        self.admission.lacks_parameter(alloc, self.tasks.as_slice())
+        self.admission
+            .lacks_parameter(alloc, earlier, self.tasks.as_slice())
     }
 
     /// Whether a given value has another type than its parameter.
@@ -178,12 +181,17 @@ impl<'a> Candidate<'a> {
     }
 
     /// The first reason why it can't start.
-    fn first_reason(&self, alloc: Global) -> Result<Option<Reason>, AllocError>
+    fn first_reason(
+        &self,
+        alloc: Global,
+        earlier: &Earlier<'_>,
+    ) -> Result<Option<Reason>, AllocError>
+        requires found { bodies_of earlier.now self.now.0 self.now.1 ≡ Some self.now.2 }
         requires pipeline { ReadsPipelineSpec self.now.1 }
         requires bodies { All (λ (body : BodyRecord). ReadsTaskSpec body.spec) self.now.2 }
         ensures { IfOk result (λ reason. reason ≡ first_reason self.now.0 self.now.1 self.now.2) }
     {
-        if self.lacks_parameter(alloc)? {
+        if self.lacks_parameter(alloc, earlier)? {
             return Ok(Some(Reason::ParameterMissing));
         }
         if self.has_mismatch(alloc)? {
@@ -204,16 +212,18 @@ impl<'a> Candidate<'a> {
 /// only error is want of memory.
 pub(crate) fn first_reason(
     alloc: Global,
+    earlier: &Earlier<'_>,
     run: &RunObject,
     pipeline: &PipelineSpec,
     bodies: &[TaskBody],
     values: &[Param],
 ) -> Result<Option<Reason>, AllocError>
+    requires found { bodies_of earlier.now run.now pipeline.now ≡ Some bodies.now }
     requires pipeline { ReadsPipelineSpec pipeline.now }
     requires bodies { All (λ (body : BodyRecord). ReadsTaskSpec body.spec) bodies.now }
     requires values { values.now ≡ all_values pipeline.now.params run.now.params }
     ensures { IfOk result (λ reason. reason ≡ first_reason run.now pipeline.now bodies.now) }
 {
     let candidate = Candidate::new(alloc, run, pipeline, bodies, values)?;
-    candidate.first_reason(alloc)
+    candidate.first_reason(alloc, earlier)
 }

@@ -1,16 +1,18 @@
-ghost use Rattle.std.specs.Prelude.{◌≡◌, ◌++◌, filter, map, not, true, IfOk, OnOk};
-ghost use Rattle.std.specs.Option.{ForSome};
+ghost use Rattle.std.specs.Prelude.{◌≡◌, ◌<◌, [], ◌++◌, filter, map, not, true, IfOk, OnOk};
+ghost use Rattle.std.specs.Option.{ForSome, option_map_or};
 ghost use Rattle.tk_matrix.specs.Product.{HasLists};
+ghost use Rattle.tk_matrix.specs.Task.{task_combination, task_combination_count};
 ghost use Rattle.tk_bind.specs.Readings.{ReadsMatrix, ReadsParam, ReadsParams, ReadsPipelineTask};
 ghost use Rattle.tk_early.specs.Settled.{is_settled};
-ghost use Rattle.tk_resolve.specs.Settled.{early_params, is_late, judged_combinations, known_combinations, late_names};
+ghost use Rattle.tk_resolve.specs.declared.settled.KnownValues.{KnownValues as Values};
+ghost use Rattle.tk_resolve.specs.Settled.{early_params, is_late, judged_combinations, judged_count, known_combinations, late_names};
 
 use crate::due::param_dues;
 use crate::questions::ToLater;
 use crate::uses::any_use;
 use std::alloc::{AllocError, Global};
 use tk_bind::{Lookup, matrix_in, params_in};
-use tk_matrix::{all, count};
+use tk_matrix::{combination, count};
 use tk_types::{List, Matrix, Param, PipelineTask, Text, TryCopy};
 
 /// Whether the value of a parameter is known only in the run.
@@ -86,68 +88,58 @@ pub(crate) fn push_params(
     Ok(())
 }
 
-/// Each combination with these parameters in front.
-fn with_early(
-    alloc: Global,
-    early: &[Param],
-    combinations: &[List<Param>],
-) -> Result<List<List<Param>>, AllocError>
-    ensures { IfOk result (λ made. made ≡ map (λ c. early.now ++ c) combinations.now) }
-{
-    let mut made = List::from_vec(Vec::with_capacity(alloc, combinations.len())?);
-    for combination in combinations {
-        let count = early.len().saturating_add(combination.len());
-        let mut whole = List::from_vec(Vec::with_capacity(alloc, count)?);
-        push_params(alloc, &mut whole, early)?;
-        push_params(alloc, &mut whole, combination.as_slice())?;
-        made.push(whole)?;
-    }
-    Ok(made)
+/// What of a settled task is known at admission: its early parameters and its matrix, with their references substituted.
+#[derive(Drop)]
+pub(crate) struct KnownValues {
+    pub early: List<Param>,
+    pub matrix: Option<Matrix>,
 }
 
-/// The combinations of early parameters and a matrix; none are judged where they are more than 256.
-fn judged_combinations(
-    alloc: Global,
-    early: List<Param>,
-    matrix: &Option<Matrix>,
-) -> Result<List<List<Param>>, AllocError>
-    requires { ForSome matrix.now HasLists }
-    ensures { IfOk result (λ made. made ≡ judged_combinations early matrix.now) }
-{
-    match matrix {
-        None => {
-            let mut made = List::new(alloc);
-            made.push(early)?;
-            Ok(made)
+impl KnownValues {
+    /// How many combinations are judged: none where they are more than 256.
+    pub(crate) fn judged_count(&self) -> u32
+        requires { ForSome self.now.matrix HasLists }
+        ensures { result ≡ judged_count self.now.matrix }
+    {
+        match &self.matrix {
+            None => 1,
+            Some(matrix) => count(matrix).unwrap_or(0),
         }
-        Some(matrix) => match count(matrix) {
-            Err(_) => Ok(List::new(alloc)),
-            Ok(_) => {
-                let listed = all(alloc, matrix)?;
-                with_early(alloc, early.as_slice(), listed.as_slice())
-            }
-        },
+    }
+
+    /// The combination at an index, with the early parameters in front. The only error is want of memory.
+    pub(crate) fn combination(&self, alloc: Global, index: u32) -> Result<List<Param>, AllocError>
+        requires lists { ForSome self.now.matrix HasLists }
+        requires below { index < task_combination_count self.now.matrix }
+        ensures { IfOk result (λ made. made ≡ task_combination self.now.early self.now.matrix index) }
+    {
+        let mut whole = self.early.copy(alloc)?;
+        if let Some(matrix) = &self.matrix {
+            let made = combination(alloc, matrix, index)?;
+            push_params(alloc, &mut whole, made.as_slice())?;
+        }
+        Ok(whole)
     }
 }
 
-/// The combinations of a settled task that are known at admission, without its late parameters: none where a reference
-/// in them has no value. The only error is want of memory.
-pub(crate) fn known_combinations(
+/// What of a settled task is known at admission, unless a reference in it has no value. The only error is want of memory.
+pub(crate) fn known_values(
     alloc: Global,
     lookup: &Lookup,
     task: &PipelineTask,
     early: &[Param],
-) -> Result<List<List<Param>>, AllocError>
+) -> Result<Option<KnownValues>, AllocError>
     requires task { ReadsPipelineTask task.now }
     requires settled { is_settled task.now ≡ true }
     requires early { early.now ≡ early_params task.now }
-    ensures { IfOk result (λ made. made ≡ known_combinations lookup.now task.now) }
+    ensures known { IfOk result (λ known. known_combinations lookup.now task.now ≡ option_map_or (λ (v : Values). judged_combinations v.early v.matrix) known []) }
+    ensures lists { IfOk result (λ known. ForSome known (λ (v : Values). ForSome v.matrix HasLists)) }
 {
     let Some(early) = params_in(alloc, lookup, early)? else {
-        return Ok(List::new(alloc));
+        return Ok(None);
     };
     match matrix_in(alloc, lookup, &task.matrix)? {
-        Some(matrix) => judged_combinations(alloc, early, &matrix),
-        None => Ok(List::new(alloc)),
+        Some(matrix) => Ok(Some(KnownValues { early, matrix })),
+        None => Ok(None),
     }
 }

@@ -2,13 +2,14 @@ ghost use Rattle.std.specs.Prelude.{◌≡◌, ◌||◌, [], All, IfOk, Some, fl
 ghost use Rattle.tk_types.specs.declared.object.Item.{Item as I};
 ghost use Rattle.tk_bind.specs.Readings.{ReadsObject, ReadsTaskSource, ReadsTaskSpec};
 ghost use Rattle.tk_resolve.specs.declared.reason.Reason.TheVariants.{CouldntGetTask};
+ghost use Rattle.tk_resolve.specs.Asks.{AsksTheSame};
 ghost use Rattle.tk_resolve.specs.Due.{step_dues};
 ghost use Rattle.tk_resolve.specs.Misuse.{any_lacks};
 ghost use Rattle.tk_resolve.specs.Spaces.{has_unbound};
-ghost use Rattle.tk_resolve.specs.TaskRun.{body_with, first_reason, no_spec, own_env, resolved_task_run, task_run_with};
+ghost use Rattle.tk_resolve.specs.TaskRun.{body_with, first_reason, no_spec, own_env, resolved_task_run, spec_of, task_run_with};
 ghost use Rattle.tk_resolve.specs.Values.{has_missing};
 
-use crate::due::steps_dues;
+use crate::body_asks::BodyAsks;
 use crate::lookup::Earlier;
 use crate::questions::any_lacks;
 use crate::reason::Reason;
@@ -44,20 +45,31 @@ fn own_env(alloc: Global, run: &TaskRunObject, body: &TaskBody) -> Result<Env, A
 }
 
 /// Whether a text of a body's steps takes of a parameter what isn't there or isn't due.
-fn steps_lack(alloc: Global, env: &Env, body: &TaskBody) -> Result<bool, AllocError>
-    requires { ReadsTaskSpec body.now.spec }
+fn steps_lack(
+    alloc: Global,
+    env: &Env,
+    body: &TaskBody,
+    asks: &BodyAsks<'_>,
+) -> Result<bool, AllocError>
+    requires body { ReadsTaskSpec body.now.spec }
+    requires asks { AsksTheSame (flat_map step_dues body.now.spec.steps) asks.now }
     ensures { IfOk result (λ lack. lack ≡ any_lacks env.now [] (flat_map step_dues body.now.spec.steps)) }
 {
     let index = index_of(alloc, env)?;
     let lookup = Lookup::new(&index, &[]);
     let spared = FirstNamed::new(alloc, &[])?;
-    let texts = steps_dues(alloc, body.spec.steps.as_slice())?;
-    any_lacks(alloc, &lookup, &spared, texts.as_slice())
+    any_lacks(alloc, &lookup, &spared, asks.as_slice())
 }
 
 /// Whether a declared parameter has no value, or a text takes of a parameter what isn't there or isn't due.
-fn lacks_parameter(alloc: Global, run: &TaskRunObject, body: &TaskBody) -> Result<bool, AllocError>
-    requires { ReadsTaskSpec body.now.spec }
+fn lacks_parameter(
+    alloc: Global,
+    run: &TaskRunObject,
+    body: &TaskBody,
+    asks: &BodyAsks<'_>,
+) -> Result<bool, AllocError>
+    requires body { ReadsTaskSpec body.now.spec }
+    requires asks { AsksTheSame (flat_map step_dues body.now.spec.steps) asks.now }
     ensures { IfOk result (λ lacks. lacks ≡ (has_missing body.now.spec.params run.now.params || any_lacks (own_env run.now body.now) [] (flat_map step_dues body.now.spec.steps))) }
 {
     let wanted = body.spec.params.as_slice();
@@ -65,7 +77,7 @@ fn lacks_parameter(alloc: Global, run: &TaskRunObject, body: &TaskBody) -> Resul
         return Ok(true);
     }
     let env = own_env(alloc, run, body)?;
-    steps_lack(alloc, &env, body)
+    steps_lack(alloc, &env, body, asks)
 }
 
 /// Whether a declared workspace that isn't optional is bound to nothing.
@@ -81,11 +93,13 @@ fn first_reason(
     alloc: Global,
     run: &TaskRunObject,
     body: &TaskBody,
+    asks: &BodyAsks<'_>,
 ) -> Result<Option<Reason>, AllocError>
-    requires { ReadsTaskSpec body.now.spec }
+    requires body { ReadsTaskSpec body.now.spec }
+    requires asks { AsksTheSame (flat_map step_dues body.now.spec.steps) asks.now }
     ensures { IfOk result (λ reason. reason ≡ first_reason run.now body.now) }
 {
-    if lacks_parameter(alloc, run, body)? {
+    if lacks_parameter(alloc, run, body, asks)? {
         return Ok(Some(Reason::ParameterMissing));
     }
     let wanted = body.spec.params.as_slice();
@@ -107,12 +121,19 @@ fn without_task(alloc: Global, run: &TaskRunObject) -> Result<TaskRunSpec, Alloc
 }
 
 /// A TaskRun whose Task has this spec.
-fn with_task(alloc: Global, run: &TaskRunObject, spec: &TaskSpec) -> Result<TaskRunSpec, AllocError>
-    requires { ReadsTaskSpec spec.now }
+fn with_task(
+    alloc: Global,
+    earlier: &Earlier<'_>,
+    run: &TaskRunObject,
+    spec: &TaskSpec,
+) -> Result<TaskRunSpec, AllocError>
+    requires reads { ReadsTaskSpec spec.now }
+    requires source { spec_of earlier.now run.now.source ≡ Some spec.now }
     ensures { IfOk result (λ made. made ≡ task_run_with run.now (body_with run.now spec.now) (first_reason run.now (body_with run.now spec.now))) }
 {
     let body = body_with(alloc, run, spec.copy(alloc)?)?;
-    let reason = first_reason(alloc, run, &body)?;
+    let asks = BodyAsks::new(alloc, earlier, &run.source, spec.steps.as_slice(), false)?;
+    let reason = first_reason(alloc, run, &body, &asks)?;
     task_run_with(alloc, run, body, reason)
 }
 
@@ -132,7 +153,7 @@ pub fn resolve_task(
     ensures { IfOk result (λ spec. spec ≡ resolved_task_run earlier.now run.now) }
 {
     match spec_of(earlier, &run.source) {
-        Some(spec) => with_task(alloc, run, spec),
+        Some(spec) => with_task(alloc, earlier, run, spec),
         None => without_task(alloc, run),
     }
 }

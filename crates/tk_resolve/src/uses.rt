@@ -6,7 +6,6 @@ ghost use Rattle.tk_resolve.specs.Misuse.{any_use, passes};
 
 use crate::due::Due;
 use std::alloc::{AllocError, Global};
-use tk_types::Text;
 use tk_vars::{Piece, Reference, known_pieces};
 
 /// A question about a reference where something is due.
@@ -79,13 +78,13 @@ fn any_in_text<Q: Question>(
 pub(crate) fn any_use<Q: Question>(
     alloc: Global,
     question: &Q,
-    texts: &[(Due, &Text)],
+    texts: &[(Due, &str)],
 ) -> Result<bool, AllocError>
     requires { All (λ t. HasReading t.1.now) texts.now }
     ensures { IfOk result (λ any. any ≡ any_use (Q.asks question.now) (seen texts.now)) }
 {
     for standing in texts {
-        if any_in_text(alloc, question, standing.0, standing.1.as_str())? {
+        if any_in_text(alloc, question, standing.0, standing.1)? {
             return Ok(true);
         }
     }

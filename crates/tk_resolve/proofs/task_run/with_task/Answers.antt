@@ -1,13 +1,22 @@
-use Rattle.std.proofs.Common.{◌≡◌, IfOk, subst, ap, sym, ◌∙◌}
+use Rattle.std.proofs.Common.{◌≡◌, IfOk, List, subst, ap, sym, ◌∙◌}
+use Rattle.std.specs.Prelude.{flat_map}
 use Rattle.tk_types.specs.declared.object.TaskRunSpec.{TaskRunSpec}
+use Rattle.tk_types.specs.declared.task.Step.{Step}
 use Rattle.tk_bind.specs.Readings.{ReadsTaskSpec}
+use Rattle.tk_resolve.specs.Asks.{AsksTheSame}
+use Rattle.tk_resolve.specs.Due.{step_dues}
 use Rattle.tk_resolve.specs.TaskRun.{body_with, first_reason, task_run_with}
 use Rattle.tk_resolve.proofs.task_run.with_task.Goals as goal
 
-pub first_reason-requires : goal.first_reason-requires
-first_reason-requires c =
+pub first_reason-requires-clause-body : goal.first_reason-requires-clause-body
+first_reason-requires-clause-body c =
     let spec : c.in_ok-body.body.spec ≡ c.args.spec.now = ap (λ b. b.spec) c.in_ok-body.ensures ∙ c.in_ok-copy.ensures in
-    subst ReadsTaskSpec (sym spec) c.requires
+    subst ReadsTaskSpec (sym spec) c.requires.reads
+
+pub first_reason-requires-clause-asks : goal.first_reason-requires-clause-asks
+first_reason-requires-clause-asks c =
+    let spec : c.in_ok-body.body.spec ≡ c.args.spec.now = ap (λ b. b.spec) c.in_ok-body.ensures ∙ c.in_ok-copy.ensures in
+    subst (λ (steps : List Step). AsksTheSame (flat_map step_dues steps) c.in_ok-asks.asks) (c.as_slice.ensures ∙ sym (ap (λ s. s.steps) spec)) c.in_ok-asks.ensures
 
 pub returns : goal.returns
 returns c =

@@ -1,4 +1,4 @@
-use Rattle.std.proofs.Common.{◌||◌, List, ap, ◌∙◌}
+use Rattle.std.proofs.Common.{◌≡◌, ◌||◌, List, Some, ap, ◌∙◌}
 use Rattle.std.specs.List.{list_any, zip}
 use Rattle.std.proofs.lemmas.List.Elements.{All-append, All-same}
 use Rattle.std.proofs.lemmas.Result.{IfOk-weaker}
@@ -8,9 +8,19 @@ use Rattle.tk_types.specs.declared.task.PipelineTask.{PipelineTask}
 use Rattle.tk_types.specs.declared.task.TaskBody.{TaskBody}
 use Rattle.tk_bind.specs.Readings.{ReadsPipelineTask, ReadsTaskSpec}
 use Rattle.tk_resolve.specs.Run.{all_tasks, lacks_parameter, results_lack, task_lacks}
+use Rattle.tk_resolve.specs.TaskRun.{spec_of}
 use Rattle.tk_resolve.specs.Values.{has_missing}
+use Rattle.tk_resolve.proofs.Sources.{sources_found}
 use Rattle.tk_resolve.proofs.Zipped.{all_firsts, all_seconds}
 use Rattle.tk_resolve.proofs.run_reason.Candidate.lacks_parameter.Goals as goal
+
+pub lacks_parameter-requires-clause-sources : goal.lacks_parameter-requires-clause-sources
+lacks_parameter-requires-clause-sources c =
+    let pipeline = c.args.self.now.1 in
+    let bodies = c.args.self.now.2 in
+    All-same (λ (t : PipelineTask × TaskBody). spec_of c.args.earlier.now t.0.source ≡ Some t.1.spec) c.as_slice.result.now (zip (all_tasks pipeline) bodies)
+    (c.as_slice.ensures.value ∙ (c.self.invariant.0 ∙ ap (λ (v : RunObject × PipelineSpec × List TaskBody). zip (all_tasks v.1) v.2) c.self.view_is))
+    (sources_found c.args.earlier.now c.args.self.now.0 pipeline bodies c.requires.found)
 
 pub lacks_parameter-requires-clause-tasks : goal.lacks_parameter-requires-clause-tasks
 lacks_parameter-requires-clause-tasks c =
