@@ -1,0 +1,12 @@
+pub mod AllOk
+pub mod AllThere
+pub mod Binds
+pub mod Counting
+pub mod Fitting
+pub mod Found
+pub mod Puts
+pub mod Readings
+pub mod References
+pub mod Selected
+pub mod StepTexts
+pub mod Texts

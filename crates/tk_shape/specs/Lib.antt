@@ -1,0 +1,5 @@
+pub mod Bound
+pub mod Fits
+pub mod Shape
+pub mod ShapeEnv
+pub mod Substituted
