@@ -1,5 +1,6 @@
 pub mod ChildAdded
 pub mod Children
+pub mod FactsThere
 pub mod FirstRun
 pub mod Nothing
 pub mod Owners

@@ -1,7 +1,8 @@
-ghost use Rattle.std.specs.Prelude.{◌≡◌, All, IfOk, OnOk, map};
+ghost use Rattle.std.specs.Prelude.{◌≡◌, true, All, IfOk, OnOk, is_some, map};
 ghost use Rattle.std.specs.Option.{ForSome};
 ghost use Rattle.tk_types.specs.First.{first_of};
 ghost use Rattle.tk_types.specs.Rejected.{Reads};
+ghost use Rattle.tk_manifest.specs.declared.kinds.KindSet.TheVariants.{WithOutcomes};
 ghost use Rattle.tk_validate.specs.Validate.{item_fault};
 ghost use Rattle.tk_verdict.specs.WellFormed.{IsWellFormed};
 ghost use Rattle.tk_admit.specs.Admit.{admitted, admitted_items, count_finding, input_fault as fault_of_input, items_fault};
@@ -15,7 +16,7 @@ use crate::weight::{check_weight, weight};
 use std::alloc::Global;
 use tk_fields::Location;
 use tk_journal::Admitted;
-use tk_manifest::{KindSet, WithDocument, read_objects_with_document};
+use tk_manifest::{Document, KindSet, read_objects};
 use tk_types::{Detail, Item, MOST_OBJECTS, Rejected};
 use tk_validate::{told, validate};
 
@@ -62,6 +63,7 @@ fn admit_items(
 ) -> Result<Admitted, Rejected>
     ensures admitted { Reads (items_fault kinds asks items.now) (admitted_items kinds asks root.now items.now) result }
     ensures well_formed { IfOk result (λ admitted. ForSome admitted.outcomes IsWellFormed) }
+    ensures decided { IfOk result (λ admitted. kinds ≡ WithOutcomes → is_some admitted.outcomes ≡ true) }
 {
     check_count(alloc, items)?;
     validate_all(alloc, items)?;
@@ -80,22 +82,6 @@ fn admit_items(
     })
 }
 
-/// What is admitted of an input beside its document, or the first fault, as `admit` gives them.
-pub fn admit_with_document(
-    alloc: Global,
-    bytes: &[u8],
-    kinds: KindSet,
-    asks: u32,
-    root: &str,
-) -> Result<WithDocument<Admitted>, Rejected>
-    ensures admitted { Reads (fault_of_input kinds asks bytes.now) (admitted kinds asks root.now bytes.now) result }
-    ensures well_formed { IfOk result (λ admitted. ForSome admitted.outcomes IsWellFormed) }
-{
-    let items = read_objects_with_document(alloc, bytes, kinds)?;
-    let admitted = admit_items(alloc, items.get().as_slice(), kinds, asks, root)?;
-    Ok(items.put(admitted))
-}
-
 /// What is admitted of an input: the entries that take in its runs, in order; a bound of the entries that their journal
 /// may get; the Scenario, where one stands; the facts of the run and its Outcomes, where `kinds` has Outcomes; and how
 /// many objects there are. `asks` is how many words ask something of a run, and `root` the folder below which the runs'
@@ -107,14 +93,15 @@ pub fn admit_with_document(
 /// The only other error is want of memory.
 pub fn admit(
     alloc: Global,
-    bytes: &[u8],
+    document: &Document<'_>,
     kinds: KindSet,
     asks: u32,
     root: &str,
 ) -> Result<Admitted, Rejected>
-    ensures admitted { Reads (fault_of_input kinds asks bytes.now) (admitted kinds asks root.now bytes.now) result }
+    ensures admitted { Reads (fault_of_input kinds asks document.now) (admitted kinds asks root.now document.now) result }
     ensures well_formed { IfOk result (λ admitted. ForSome admitted.outcomes IsWellFormed) }
+    ensures decided { IfOk result (λ admitted. kinds ≡ WithOutcomes → is_some admitted.outcomes ≡ true) }
 {
-    let admitted = admit_with_document(alloc, bytes, kinds, asks, root)?;
-    Ok(admitted.into_inner())
+    let items = read_objects(alloc, document, kinds)?;
+    admit_items(alloc, items.as_slice(), kinds, asks, root)
 }

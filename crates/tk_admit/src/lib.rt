@@ -16,5 +16,5 @@ mod taken;
 mod task_places;
 mod weight;
 
-pub use admission::{admit, admit_with_document};
+pub use admission::admit;
 pub use taken::Taken;

@@ -6,7 +6,7 @@ use crate::rows::whole;
 use std::alloc::{AllocError, Global};
 use std::test::Fail;
 use tk_admit::admit;
-use tk_manifest::KindSet;
+use tk_manifest::{Document, KindSet};
 use tk_types::{Binding, Facts, Param, Value};
 use tk_verdict::{condition, pipeline_results, ready, verdicts};
 
@@ -116,7 +116,8 @@ fn a_ready_task_of_finally_sees_the_status_of_all(rt: HostRuntime) -> Result<(),
             alloc,
             format!(in alloc; "{RUN}{children}]}}}}]}}")?.as_str(),
         )?;
-        match admit(alloc, input.as_slice(), KindSet::WithOutcomes, 0, "/work") {
+        let document = Document::new(alloc, input.as_slice())?;
+        match admit(alloc, &document, KindSet::WithOutcomes, 0, "/work") {
             Ok(admitted) => {
                 assert!(rt; decides(alloc, &admitted.outcomes, tasks.as_slice(), reason)?);
             }

@@ -26,7 +26,7 @@ use Rattle.tk_commands.specs.declared.command.Command.{Command}
 use Rattle.tk_commands.specs.declared.command.Command.TheVariants.{Check, Decide, Simulate}
 use Rattle.tk_commands.specs.declared.due.Due.{Due}
 use Rattle.tk_commands.specs.Answer.{IsAnswer, Simulates}
-use Rattle.tk_commands.specs.Due.{answered, decided_if_there, checked, due_by, IsRefusalDue, rejected, root, status_of}
+use Rattle.tk_commands.specs.Due.{checked, rejected, root, status_of, IsDecided, IsDueBy, IsAnswered, IsRefusalDue}
 use Rattle.tk_commands.specs.Plain.{IsReadDue, is_answer}
 
 -- the fault of an input that is longer than the longest
@@ -35,12 +35,13 @@ longer_fault kinds asks bytes lt =
     let yes : nat_lt 8388608 (length bytes) ≡ true = grind (arith, nat_tests) in
     ap (λ (b : Bool). first_of (first_of (refused_if b too_long ∷ json_fault kinds (json_of bytes) ∷ []) ∷ items_fault kinds asks (objects_of kinds bytes) ∷ [])) yes
 
-longer_due : (accepted : Admitted → Due) (kinds : KindSet) (bytes : List ℕ) → 8388608 < length bytes → rejected too_long ≡ due_by accepted kinds bytes
-longer_due accepted kinds bytes lt = sym (ap (answered accepted (admitted kinds 0 root bytes)) (longer_fault kinds 0 bytes lt))
+-- it is due whatever is accepted
+longer_due : (accepted : Admitted → Due → Type 0) (kinds : KindSet) (bytes : List ℕ) (due : Due) → due ≡ rejected too_long → 8388608 < length bytes → IsDueBy accepted kinds bytes due
+longer_due accepted kinds bytes due is lt = subst (λ (found : Finding). IsAnswered accepted (admitted kinds 0 root bytes) found due) (sym (longer_fault kinds 0 bytes lt)) is
 
 longer_answer : (command : Command) (bytes : List ℕ) (answer : Answer) → answer.due ≡ rejected too_long → answer.journal.history ≡ [] → 8388608 < length bytes → IsAnswer command bytes answer
-longer_answer Check bytes answer is none lt = (is ∙ longer_due (λ (found : Admitted). checked found.objects) Four bytes lt, none)
-longer_answer Decide bytes answer is none lt = (is ∙ longer_due (λ (found : Admitted). decided_if_there found.outcomes) WithOutcomes bytes lt, none)
+longer_answer Check bytes answer is none lt = (longer_due (λ (found : Admitted) (due : Due). due ≡ checked found.objects) Four bytes answer.due is lt, none)
+longer_answer Decide bytes answer is none lt = (longer_due (λ (found : Admitted) (due : Due). IsDecided found.outcomes due) WithOutcomes bytes answer.due is lt, none)
 longer_answer (Simulate json) bytes answer is none lt = subst (λ (found : Finding). Simulates json bytes found answer) (sym (longer_fault WithScenario 0 bytes lt)) (is, none)
 
 untold_due : (command : Command) (ended : Bool) (n : ℕ) (answer : Answer) → answer.due ≡ rejected too_long → answer.journal.history ≡ [] → 8388608 < n → IsReadDue command None ended answer
@@ -60,14 +61,16 @@ read_due command None ended bytes answer is told end = (bytes, tt, inl end, is)
 read_due command (Some all) ended bytes answer is told end = (bytes, told, inl end, is)
 
 -- what is due for what is admitted, and for a fault
-pub admitted_due : (accepted : Admitted → Due) (kinds : KindSet) (bytes : List ℕ) (found : Admitted)
-    → input_fault kinds 0 bytes ≡ None → found ≡ admitted kinds 0 root bytes → accepted found ≡ due_by accepted kinds bytes
-admitted_due accepted kinds bytes found none is = ap accepted is ∙ sym (ap (answered accepted (admitted kinds 0 root bytes)) none)
+pub admitted_due : (accepted : Admitted → Due → Type 0) (kinds : KindSet) (bytes : List ℕ) (found : Admitted) (due : Due)
+    → input_fault kinds 0 bytes ≡ None → found ≡ admitted kinds 0 root bytes → accepted found due → IsDueBy accepted kinds bytes due
+admitted_due accepted kinds bytes found due none is told =
+    subst (λ (finding : Finding). IsAnswered accepted (admitted kinds 0 root bytes) finding due) (sym none) (subst (λ (a : Admitted). accepted a due) is told)
 
-pub refused_due : (accepted : Admitted → Due) (kinds : KindSet) (bytes : List ℕ) (error : Rejected) (due : Due)
-    → IsRefusal (input_fault kinds 0 bytes) error → IsRefusalDue error due → due ≡ due_by accepted kinds bytes
+pub refused_due : (accepted : Admitted → Due → Type 0) (kinds : KindSet) (bytes : List ℕ) (error : Rejected) (due : Due)
+    → IsRefusal (input_fault kinds 0 bytes) error → IsRefusalDue error due → IsDueBy accepted kinds bytes due
 refused_due accepted kinds bytes Memory due found told = absurd told
-refused_due accepted kinds bytes (FaultFound fault) due found told = told ∙ sym (ap (answered accepted (admitted kinds 0 root bytes)) found)
+refused_due accepted kinds bytes (FaultFound fault) due found told =
+    subst (λ (finding : Finding). IsAnswered accepted (admitted kinds 0 root bytes) finding due) (sym found) told
 
 -- `simulate` refuses so
 pub refused_answer : (json : Bool) (bytes : List ℕ) (error : Rejected) (answer : Answer)
@@ -77,9 +80,9 @@ refused_answer json bytes (FaultFound fault) answer found told none = subst (λ 
 
 -- each of these answers has a status with which a whole text is printed
 
-settled : (accepted : Admitted → Due) (found : Admitted) (finding : Finding) → ((a : Admitted) → is_answer (accepted a).status ≡ true) → is_answer (answered accepted found finding).status ≡ true
-settled accepted found (Some fault) all = refl
-settled accepted found None all = all found
+settled : (accepted : Admitted → Due → Type 0) (found : Admitted) (finding : Finding) (due : Due) → (accepted found due → is_answer due.status ≡ true) → IsAnswered accepted found finding due → is_answer due.status ≡ true
+settled accepted found (Some fault) due all is = ap (λ (d : Due). is_answer d.status) is
+settled accepted found None due all is = all is
 
 by_holds : (holds : Bool) → is_answer (if holds then 0 else 1) ≡ true
 by_holds true = refl
@@ -89,9 +92,9 @@ condition_status : (condition : Option Condition) → is_answer (status_of condi
 condition_status None = refl
 condition_status (Some condition) = by_holds condition.holds
 
-decided_status : (outcomes : Option Facts) → is_answer (decided_if_there outcomes).status ≡ true
-decided_status None = refl
-decided_status (Some facts) = condition_status (condition_of facts (labels_of facts))
+decided_status : (outcomes : Option Facts) (due : Due) → IsDecided outcomes due → is_answer due.status ≡ true
+decided_status None due is = absurd is
+decided_status (Some facts) due is = ap (λ (d : Due). is_answer d.status) is ∙ condition_status (condition_of facts (labels_of facts))
 
 by_open : (some ends : Bool) → is_answer (if some then 7 else (if ends then 1 else 0)) ≡ true
 by_open true ends = refl
@@ -108,9 +111,8 @@ simulated_status json bytes None answer is =
 
 pub answer_status : (command : Command) (bytes : List ℕ) (answer : Answer) → IsAnswer command bytes answer → is_answer answer.due.status ≡ true
 answer_status Check bytes answer is =
-    subst (λ (due : Due). is_answer due.status ≡ true) (sym is.0)
-    (settled (λ (found : Admitted). checked found.objects) (admitted Four 0 root bytes) (input_fault Four 0 bytes) (λ found. refl))
+    settled (λ (found : Admitted) (due : Due). due ≡ checked found.objects) (admitted Four 0 root bytes) (input_fault Four 0 bytes) answer.due (λ told. ap (λ (d : Due). is_answer d.status) told) is.0
 answer_status Decide bytes answer is =
-    subst (λ (due : Due). is_answer due.status ≡ true) (sym is.0)
-    (settled (λ (found : Admitted). decided_if_there found.outcomes) (admitted WithOutcomes 0 root bytes) (input_fault WithOutcomes 0 bytes) (λ found. decided_status found.outcomes))
+    settled (λ (found : Admitted) (due : Due). IsDecided found.outcomes due) (admitted WithOutcomes 0 root bytes) (input_fault WithOutcomes 0 bytes) answer.due
+    (decided_status (admitted WithOutcomes 0 root bytes).outcomes answer.due) is.0
 answer_status (Simulate json) bytes answer is = simulated_status json bytes (input_fault WithScenario 0 bytes) answer is

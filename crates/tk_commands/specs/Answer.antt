@@ -13,7 +13,7 @@ use Rattle.tk_commands.specs.declared.answer.Answer.{Answer}
 use Rattle.tk_commands.specs.declared.command.Command.{Command}
 use Rattle.tk_commands.specs.declared.command.Command.TheVariants.{Check, Decide, Simulate}
 use Rattle.tk_commands.specs.declared.due.Due.{Due}
-use Rattle.tk_commands.specs.Due.{check_due, decide_due, rejected}
+use Rattle.tk_commands.specs.Due.{IsCheckDue, IsDecideDue, rejected}
 
 -- the report of a history's objects at its end, as one line of JSON or as text
 abbrev pub reported_text : Bool → List Entry → List ℕ
@@ -31,6 +31,6 @@ Simulates json bytes None answer = IsPlayed (given_by bytes) answer.journal.hist
 
 -- `check` and `decide` run nothing
 abbrev pub IsAnswer : Command → List ℕ → Answer → Type 0
-IsAnswer Check bytes answer = (answer.due ≡ check_due bytes) × (answer.journal.history ≡ [])
-IsAnswer Decide bytes answer = (answer.due ≡ decide_due bytes) × (answer.journal.history ≡ [])
+IsAnswer Check bytes answer = IsCheckDue bytes answer.due × (answer.journal.history ≡ [])
+IsAnswer Decide bytes answer = IsDecideDue bytes answer.due × (answer.journal.history ≡ [])
 IsAnswer (Simulate json) bytes answer = Simulates json bytes (input_fault WithScenario 0 bytes) answer

@@ -75,10 +75,10 @@ decided_by facts labels condition = record { status = status_of condition; text 
 abbrev pub decided : Facts → Due
 decided facts = decided_by facts (labels_of facts) (condition_of facts (labels_of facts))
 
--- `decide` speaks of the facts of a run, which admission gives it; without facts there is nothing to say
-abbrev pub decided_if_there : Option Facts → Due
-decided_if_there (Some facts) = decided facts
-decided_if_there None = record { status = 7; text = [] }
+-- `decide` speaks of the facts of a run, which admission gives it
+abbrev pub IsDecided : Option Facts → Due → Type 0
+IsDecided None due = ⊥
+IsDecided (Some facts) due = due ≡ decided facts
 
 -- `check` tells the number of objects
 abbrev pub checked : ℕ → Due
@@ -98,16 +98,16 @@ abbrev pub root : List ℕ
 root = codes "/work"
 
 -- what is due for an input: the line of its first fault, or what is due for what is admitted of it
-abbrev pub answered : (Admitted → Due) → Admitted → Finding → Due
-answered accepted found (Some fault) = rejected fault
-answered accepted found None = accepted found
+abbrev pub IsAnswered : (Admitted → Due → Type 0) → Admitted → Finding → Due → Type 0
+IsAnswered accepted found (Some fault) due = due ≡ rejected fault
+IsAnswered accepted found None due = accepted found due
 
-abbrev pub due_by : (Admitted → Due) → KindSet → List ℕ → Due
-due_by accepted kinds bytes = answered accepted (admitted kinds 0 root bytes) (input_fault kinds 0 bytes)
+abbrev pub IsDueBy : (Admitted → Due → Type 0) → KindSet → List ℕ → Due → Type 0
+IsDueBy accepted kinds bytes due = IsAnswered accepted (admitted kinds 0 root bytes) (input_fault kinds 0 bytes) due
 
 -- what `check` and `decide` print for the bytes of an input
-abbrev pub check_due : List ℕ → Due
-check_due bytes = due_by (λ (found : Admitted). checked found.objects) Four bytes
+abbrev pub IsCheckDue : List ℕ → Due → Type 0
+IsCheckDue bytes due = IsDueBy (λ (found : Admitted) (due : Due). due ≡ checked found.objects) Four bytes due
 
-abbrev pub decide_due : List ℕ → Due
-decide_due bytes = due_by (λ (found : Admitted). decided_if_there found.outcomes) WithOutcomes bytes
+abbrev pub IsDecideDue : List ℕ → Due → Type 0
+IsDecideDue bytes due = IsDueBy (λ (found : Admitted) (due : Due). IsDecided found.outcomes due) WithOutcomes bytes due

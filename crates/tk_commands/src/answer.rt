@@ -1,20 +1,20 @@
-ghost use Rattle.std.specs.Prelude.{◌≡◌, [], IfOk};
+ghost use Rattle.std.specs.Prelude.{◌≡◌, [], true, IfOk, is_some};
 ghost use Rattle.std.specs.Option.{ForSome};
 ghost use Rattle.tk_types.specs.Fault.{too_long};
 ghost use Rattle.tk_verdict.specs.WellFormed.{IsWellFormed};
 ghost use Rattle.tk_journal.specs.Legal.{IsLegal};
 ghost use Rattle.tk_report.specs.Objects.{HasMoments};
 ghost use Rattle.tk_commands.specs.Answer.{IsAnswer, reported as reported_by};
-ghost use Rattle.tk_commands.specs.Due.{check_due, decide_due, decided as decided_facts, decided_if_there as decided_found, rejected as due_rejected, IsRefusalDue};
+ghost use Rattle.tk_commands.specs.Due.{decided as decided_facts, rejected as due_rejected, IsCheckDue, IsDecideDue, IsDecided, IsRefusalDue};
 
 use crate::command::Command;
-use crate::due::{Due, checked, decided, nothing, rejected, reported};
+use crate::due::{Due, checked, decided, rejected, reported};
 use crate::unready::said_of;
 use std::alloc::{AllocError, Global};
 use std::mem;
-use tk_admit::admit_with_document;
+use tk_admit::admit;
 use tk_journal::Journal;
-use tk_manifest::KindSet;
+use tk_manifest::{Document, KindSet};
 use tk_simulate::simulate;
 use tk_types::{Detail, Facts, Fault, Place, Rejected};
 use tk_verdict::Decision;
@@ -49,14 +49,15 @@ fn decided_run(alloc: Global, facts: &Facts) -> Result<Due, AllocError>
     )
 }
 
-/// The same, where there are facts.
-fn decided_if_there(alloc: Global, facts: &Option<Facts>) -> Result<Due, AllocError>
-    requires { ForSome facts.now IsWellFormed }
-    ensures { IfOk result (λ due. due ≡ decided_found facts.now) }
+/// The same of facts that are there.
+fn decided_there(alloc: Global, facts: &Option<Facts>) -> Result<Due, AllocError>
+    requires well_formed { ForSome facts.now IsWellFormed }
+    requires there { is_some facts.now ≡ true }
+    ensures { IfOk result (IsDecided facts.now) }
 {
     match facts {
         Some(facts) => decided_run(alloc, facts),
-        None => Ok(nothing(alloc)),
+        None => unreachable!(),
     }
 }
 
@@ -72,11 +73,14 @@ pub(crate) fn refused(alloc: Global, refused: &Rejected) -> Result<Due, AllocErr
 
 /// What `decide` prints for the bytes of an input.
 fn decide(alloc: Global, bytes: &[u8]) -> Result<Due, AllocError>
-    ensures { IfOk result (λ due. due ≡ decide_due bytes.now) }
+    ensures { IfOk result (IsDecideDue bytes.now) }
 {
-    match admit_with_document(alloc, bytes, KindSet::WithOutcomes, 0, ROOT) {
+    let document = Document::new(alloc, bytes)?;
+    let admitted = admit(alloc, &document, KindSet::WithOutcomes, 0, ROOT);
+    mem::forget(document);
+    match admitted {
         Ok(admitted) => {
-            let due = decided_if_there(alloc, &admitted.get().outcomes);
+            let due = decided_there(alloc, &admitted.outcomes);
             mem::forget(admitted);
             due
         }
@@ -98,14 +102,17 @@ pub(crate) fn without_journal(alloc: Global, due: Due) -> Answer
 
 /// What `check` answers for the bytes of an input.
 fn check(alloc: Global, bytes: &[u8]) -> Result<Answer, AllocError>
-    ensures due { IfOk result (λ answer. answer.due ≡ check_due bytes.now) }
+    ensures due { IfOk result (λ answer. IsCheckDue bytes.now answer.due) }
     ensures journal { IfOk result (λ answer. answer.journal.history ≡ []) }
 {
-    match admit_with_document(alloc, bytes, KindSet::Four, 0, ROOT) {
+    let document = Document::new(alloc, bytes)?;
+    let admitted = admit(alloc, &document, KindSet::Four, 0, ROOT);
+    // What was read, and below what was admitted, goes with the program, which ends once this is printed.
+    mem::forget(document);
+    match admitted {
         Ok(admitted) => {
-            let due = checked(alloc, admitted.get().objects);
-            let warnings = said_of(alloc, admitted.get().entries.as_slice(), bytes);
-            // What was read and admitted goes with the program, which ends once this is printed.
+            let due = checked(alloc, admitted.objects);
+            let warnings = said_of(alloc, admitted.entries.as_slice(), bytes);
             mem::forget(admitted);
             Ok(Answer {
                 due: due?,

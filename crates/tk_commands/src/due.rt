@@ -7,7 +7,7 @@ ghost use Rattle.tk_verdict.specs.Verdict.{label_at as label_of_place};
 ghost use Rattle.tk_journal.specs.Legal.{IsLegal};
 ghost use Rattle.tk_report.specs.Objects.{HasMoments};
 ghost use Rattle.tk_commands.specs.Answer.{reported as reported_by, reported_text as text_of_report};
-ghost use Rattle.tk_commands.specs.Due.{checked as checked_objects, condition_words, decided_by, decided_if_there, label_line, label_reason, label_word as word_of_label, rejected as due_rejected, result_line, run_line, status_of as status_of_condition, task_line};
+ghost use Rattle.tk_commands.specs.Due.{checked as checked_objects, condition_words, decided_by, label_line, label_reason, label_word as word_of_label, rejected as due_rejected, result_line, run_line, status_of as status_of_condition, task_line};
 
 use std::alloc::{AllocError, Global};
 use tk_journal::Journal;
@@ -208,16 +208,6 @@ pub fn decided(
         status: status_of(condition),
         text: Text::from_string(text),
     })
-}
-
-/// What is due where there is nothing to decide.
-pub fn nothing(alloc: Global) -> Due
-    ensures { result ≡ decided_if_there None }
-{
-    Due {
-        status: 7,
-        text: Text::new(alloc),
-    }
 }
 
 /// What is due for an input with so many objects.

@@ -6,7 +6,7 @@ mod shapes;
 use std::alloc::{AllocError, Global};
 use std::process::Abort;
 use std::test::Fail;
-use tk_manifest::{KindSet, read_objects};
+use tk_manifest::{Document, KindSet, read_objects};
 use tk_types::{Item, List, Rejected, Text};
 
 /// The line of a refusal, and `read` where there is none.
@@ -20,7 +20,8 @@ pub fn told(alloc: Global, outcome: Result<List<Item>, Rejected>) -> Result<Text
 
 /// What is told of a text.
 pub fn reading(alloc: Global, kinds: KindSet, text: &str) -> Result<Text, AllocError> {
-    told(alloc, read_objects(alloc, text.as_bytes(), kinds))
+    let document = Document::new(alloc, text.as_bytes())?;
+    told(alloc, read_objects(alloc, &document, kinds))
 }
 
 /// Whether each row of a table is told as it says, where its value stands at `@` of a text: the value, and behind `=> `

@@ -1,4 +1,4 @@
-ghost use Rattle.std.specs.Prelude.{◌≡◌, [], ◌∷◌, IfOk, codes, map, option_map};
+ghost use Rattle.std.specs.Prelude.{◌≡◌, [], ◌∷◌, codes, map};
 ghost use Rattle.serde_json.specs.View.{view};
 ghost use Rattle.tk_types.specs.Fault.{fault};
 ghost use Rattle.tk_types.specs.Place.{root};
@@ -6,19 +6,15 @@ ghost use Rattle.tk_types.specs.First.{first_in};
 ghost use Rattle.tk_types.specs.Rejected.{Reads};
 ghost use Rattle.tk_types.specs.declared.fault.Detail.TheVariants.{Nothing};
 ghost use Rattle.tk_manifest.specs.Item.{headed, headed_at, item};
-ghost use Rattle.tk_manifest.specs.Input.{body, body_of, items_from, json_of, list, list_items, list_items_of, list_keys, objects_of, reading_fault, whole, whole_of};
+ghost use Rattle.tk_manifest.specs.Input.{body, body_of, items_from, list, list_items, list_items_of, list_keys, objects_of, reading_fault, whole, whole_of};
 
+use crate::document::Document;
 use crate::item::{Heading, check_version, read_headed, read_heading, read_item};
 use crate::kinds::KindSet;
-use crate::with_document::WithDocument;
 use serde_json::Value as Json;
-use std::alloc::{AllocError, Global};
-use std::str;
+use std::alloc::Global;
 use tk_fields::{Location, check_object, elements_of, field_table, refusal};
 use tk_types::{Detail, Fault, Item, List, Place, Rejected};
-
-/// The greatest number of bytes that an input may have.
-const LONGEST_INPUT: usize = 8_388_608;
 
 /// The objects of a list, in order.
 fn read_items(
@@ -125,21 +121,6 @@ fn read_whole(alloc: Global, kinds: KindSet, value: &Json) -> Result<List<Item>,
     Ok(read_body(alloc, kinds, &heading, value, &place)?)
 }
 
-/// The JSON value that bytes are, if they are a text of JSON.
-fn json(alloc: Global, bytes: &[u8]) -> Result<Option<Json>, AllocError>
-    ensures { IfOk result (λ value. option_map (λ v. view v) value ≡ json_of bytes.now) }
-{
-    let text = match str::from_utf8(bytes) {
-        Ok(text) => text,
-        Err(_) => return Ok(None),
-    };
-    match Json::from_str(alloc, text) {
-        Ok(value) => Ok(Some(value)),
-        Err(error) if error.is_memory() => Err(AllocError),
-        Err(_) => Ok(None),
-    }
-}
-
 /// A fault of the whole input.
 fn input_fault(alloc: Global, number: u8) -> Fault
     ensures { result ≡ fault number root Nothing }
@@ -151,33 +132,22 @@ fn input_fault(alloc: Global, number: u8) -> Fault
     }
 }
 
-/// The objects of an input beside its document, or what is wrong with it first, as `read_objects` gives them.
-pub fn read_objects_with_document(
-    alloc: Global,
-    bytes: &[u8],
-    kinds: KindSet,
-) -> Result<WithDocument<List<Item>>, Rejected>
-    ensures { Reads (reading_fault kinds bytes.now) (objects_of kinds bytes.now) result }
-{
-    if LONGEST_INPUT < bytes.len() {
-        return Err(Rejected::Fault(input_fault(alloc, 22)));
-    }
-    match json(alloc, bytes)? {
-        Some(value) => {
-            let objects = read_whole(alloc, kinds, &value)?;
-            Ok(WithDocument::new(objects, value))
-        }
-        None => Err(Rejected::Fault(input_fault(alloc, 1))),
-    }
-}
-
 /// The objects of an input, or what is wrong with it first. It is `TooLong` above 8,388,608 bytes, before anything is
 /// parsed, and `BadJson` where it is no text of JSON, which is one that nests deeper than 127 too. Then it is one
 /// object, or a List of objects in order. Of an object its version and kind go first, then its keys, then its fields.
 /// The only other error is want of memory.
-pub fn read_objects(alloc: Global, bytes: &[u8], kinds: KindSet) -> Result<List<Item>, Rejected>
-    ensures { Reads (reading_fault kinds bytes.now) (objects_of kinds bytes.now) result }
+pub fn read_objects(
+    alloc: Global,
+    document: &Document<'_>,
+    kinds: KindSet,
+) -> Result<List<Item>, Rejected>
+    ensures { Reads (reading_fault kinds document.now) (objects_of kinds document.now) result }
 {
-    let objects = read_objects_with_document(alloc, bytes, kinds)?;
-    Ok(objects.into_inner())
+    if document.is_too_long() {
+        return Err(Rejected::Fault(input_fault(alloc, 22)));
+    }
+    match document.json() {
+        Some(value) => read_whole(alloc, kinds, value),
+        None => Err(Rejected::Fault(input_fault(alloc, 1))),
+    }
 }

@@ -7,6 +7,7 @@
 //! its fields in the order of their table, each whole before the next, and then the choices between two fields.
 #![tactic(auto)]
 
+mod document;
 mod input;
 mod item;
 mod kinds;
@@ -17,9 +18,8 @@ mod parameter;
 mod pipeline;
 mod run;
 mod task;
-mod with_document;
 mod workspace;
 
-pub use input::{read_objects, read_objects_with_document};
+pub use document::Document;
+pub use input::read_objects;
 pub use kinds::KindSet;
-pub use with_document::WithDocument;

@@ -19,7 +19,7 @@ use tk_cache::Cache;
 use tk_edge::{Clock, Gate, Host};
 use tk_journal::Journal;
 use tk_journal::laws::legal_is_right;
-use tk_manifest::KindSet;
+use tk_manifest::{Document, KindSet};
 use tk_rounds::Bench;
 use tk_sound::laws::admitted_is_legal;
 use tk_store::Store;
@@ -62,7 +62,8 @@ fn prepare(
     ensures ok { IfOk result (λ prepared. (fault_by words.now bytes.now ≡ None) × IsPrepared root.now words.now bytes.now nodes prepared.0 prepared.1.items prepared.2.items) }
     ensures err { IfErr result (IsRefusal (fault_by words.now bytes.now)) }
 {
-    let admitted = admit(alloc, bytes, KindSet::Four, count_of(words), root)?;
+    let document = Document::new(alloc, bytes)?;
+    let admitted = admit(alloc, &document, KindSet::Four, count_of(words), root)?;
     admitted_is_legal();
     let store = Store::new(alloc, admitted)?;
     let roots = roots_of(alloc, root, nodes)?;

@@ -7,7 +7,7 @@ use crate::scripts::scripts_of;
 use std::alloc::{AllocError, Global};
 use tk_admit::admit;
 use tk_journal::Admitted;
-use tk_manifest::KindSet;
+use tk_manifest::{Document, KindSet};
 use tk_sound::laws::admitted_is_legal;
 use tk_types::{List, Rejected, Scenario};
 use tk_world::World;
@@ -78,7 +78,8 @@ fn begin(alloc: Global, given: Admitted) -> Result<Started, AllocError>
 pub fn start(alloc: Global, bytes: &[u8]) -> Result<Started, Rejected>
     ensures { Starts bytes.now result }
 {
-    let admitted = admit(alloc, bytes, KindSet::WithScenario, 0, ROOT)?;
+    let document = Document::new(alloc, bytes)?;
+    let admitted = admit(alloc, &document, KindSet::WithScenario, 0, ROOT)?;
     admitted_is_legal();
     Ok(begin(alloc, admitted)?)
 }

@@ -3,7 +3,7 @@
 use crate::objects::{reading, texts_hold, told};
 use std::alloc::{AllocError, Global};
 use std::test::Fail;
-use tk_manifest::{KindSet, read_objects};
+use tk_manifest::{Document, KindSet, read_objects};
 use tk_types::{Item, ItemObject, Text};
 
 /// Texts that are no input, the first of them empty, and one that is.
@@ -58,10 +58,8 @@ fn a_text_has_8388608_bytes(rt: HostRuntime) -> Result<(), Fail> {
 #[test]
 fn bytes_are_utf_8(rt: HostRuntime) -> Result<(), Fail> {
     let alloc = rt.alloc();
-    let line = told(
-        alloc,
-        read_objects(alloc, &[0x22, 0xff, 0x22], KindSet::Four),
-    )?;
+    let document = Document::new(alloc, &[0x22, 0xff, 0x22])?;
+    let line = told(alloc, read_objects(alloc, &document, KindSet::Four))?;
     assert_eq!(rt; line.as_str(), "rejected 1 BadJson\n");
     Ok(())
 }
@@ -145,7 +143,8 @@ fn listed(alloc: Global, items: &[Item]) -> Result<String, AllocError> {
 
 /// The objects of a text, one a line, or the line of a refusal.
 fn listing(alloc: Global, text: &str) -> Result<String, AllocError> {
-    match read_objects(alloc, text.as_bytes(), KindSet::Four) {
+    let document = Document::new(alloc, text.as_bytes())?;
+    match read_objects(alloc, &document, KindSet::Four) {
         Ok(items) => listed(alloc, items.as_slice()),
         outcome => String::from_str(alloc, told(alloc, outcome)?.as_str()),
     }

@@ -1,7 +1,7 @@
 use Rattle.std.proofs.Common.{Some}
 use Rattle.serde_json.specs.View.{view}
 use Rattle.tk_manifest.proofs.Texts.{json_of-no_text, json_of-text}
-use Rattle.tk_manifest.proofs.input.json.Goals as goal
+use Rattle.tk_manifest.proofs.document.json.Goals as goal
 
 pub returns-in-Err : goal.returns-in-Err
 returns-in-Err c = json_of-no_text c.args.bytes.now c.in-Err.ensures.cases.0
