@@ -1,18 +1,19 @@
 -- With a run and outcomes there are facts of them.
-use Rattle.std.proofs.Common.{◌≡◌, Bool, true, false, List, [], ◌∷◌, Option, Some, None, refl, sym, subst, ap, ◌∙◌}
-use Rattle.std.specs.Prelude.{cond, filter, is_some, option_and_then, option_map, slice_get}
-use Rattle.std.proofs.lemmas.Bool.{cases_Bool}
+use Rattle.std.proofs.Common.{◌≡◌, Bool, true, false, List, [], ◌∷◌, Option, Some, None, refl, sym, ap, ◌∙◌}
+use Rattle.std.specs.Prelude.{cond, is_some, option_and_then, option_map, slice_get}
 use Rattle.std.proofs.lemmas.Option.{none-some}
 use Rattle.tk_types.specs.declared.object.Item.{Item}
 use Rattle.tk_types.specs.declared.object.ItemObject.{ItemObject}
 use Rattle.tk_types.specs.declared.object.ItemObject.TheVariants.{Task, Pipeline, TaskRun, PipelineRun, Outcomes, Scenario}
 use Rattle.tk_types.specs.declared.object.OutcomesSpec.{OutcomesSpec}
+use Rattle.tk_types.specs.declared.run.Facts.{Facts}
 use Rattle.tk_types.specs.declared.run.RunSpec.{RunSpec}
 use Rattle.tk_types.specs.Fault.{missing_field}
 use Rattle.tk_types.specs.Place.{Place, root}
-use Rattle.tk_manifest.specs.declared.kinds.KindSet.TheVariants.{WithOutcomes}
+use Rattle.tk_manifest.specs.declared.kinds.KindSet.{KindSet}
+use Rattle.tk_manifest.specs.declared.kinds.KindSet.TheVariants.{Four, WithOutcomes, WithScenario}
 use Rattle.tk_admit.specs.declared.taken.Taken.{Taken}
-use Rattle.tk_admit.specs.Command.{command_finding, decided_facts, facts_with, is_outcomes, missing, outcomes_at, outcomes_of, runs_of, the_outcomes, the_run}
+use Rattle.tk_admit.specs.Command.{command_facts, command_finding, decided_facts, facts_with, is_outcomes, missing, outcomes_at, outcomes_of, runs_of, the_outcomes, the_run}
 use Rattle.tk_admit.proofs.Nothing.{first_none, rest_none}
 
 -- outcomes have a place and a spec
@@ -46,7 +47,14 @@ both_there None outcomes has_run has_outcomes = has_run
 both_there (Some spec) None has_run has_outcomes = has_outcomes
 both_there (Some spec) (Some outcomes) has_run has_outcomes = refl
 
-pub facts_there : (items : List Item) (runs : List Taken) → command_finding WithOutcomes items runs ≡ None → is_some (decided_facts items runs) ≡ true
-facts_there items runs none =
+all_there : (items : List Item) (runs : List Taken) → command_finding WithOutcomes items runs ≡ None → is_some (decided_facts items runs) ≡ true
+all_there items runs none =
     both_there (the_run runs) (the_outcomes items) (run_there (runs_of runs) (first_none _ _ none))
     (outcomes_there items (first_none _ _ (rest_none (missing (runs_of runs)) _ none)))
+
+-- where a command asks for them
+pub facts_there : (kinds : KindSet) (items : List Item) (runs : List Taken) (found : Option Facts) → command_finding kinds items runs ≡ None → found ≡ command_facts kinds items runs
+    → kinds ≡ WithOutcomes → is_some found ≡ true
+facts_there Four items runs found none same is = cc
+facts_there WithOutcomes items runs found none same is = ap is_some same ∙ all_there items runs none
+facts_there WithScenario items runs found none same is = cc

@@ -1,4 +1,4 @@
-ghost use Rattle.std.specs.Prelude.{◌≡◌, ◌∷◌, [], true, All, IfOk, Some, is_some, map, option_map, slice_get};
+ghost use Rattle.std.specs.Prelude.{◌≡◌, ◌∷◌, [], All, IfOk, Some, map, option_map, slice_get};
 ghost use Rattle.std.specs.Option.{ForSome};
 ghost use Rattle.tk_types.specs.First.{first_of};
 ghost use Rattle.tk_types.specs.Fault.{duplicate};
@@ -131,7 +131,6 @@ fn decided_facts(alloc: Global, items: &[Item], runs: &[Taken]) -> Result<Option
     requires { All IsTaken runs.now }
     ensures found { Reads (command_finding WithOutcomes items.now runs.now) (facts_of_input items.now runs.now) result }
     ensures well_formed { IfOk result (λ facts. ForSome facts IsWellFormed) }
-    ensures decided { IfOk result (λ facts. is_some facts ≡ true) }
 {
     let found = runs_of(alloc, runs)?;
     let outcomes = outcomes_of(alloc, items)?;
@@ -157,7 +156,6 @@ pub(crate) fn command_facts(
     requires { All IsTaken runs.now }
     ensures found { Reads (command_finding kinds items.now runs.now) (facts_asked kinds items.now runs.now) result }
     ensures well_formed { IfOk result (λ facts. ForSome facts IsWellFormed) }
-    ensures decided { IfOk result (λ facts. kinds ≡ WithOutcomes → is_some facts ≡ true) }
 {
     match kinds {
         KindSet::Four => Ok(None),
