@@ -2,7 +2,9 @@ ghost use Rattle.std.specs.Prelude.{◌≡◌, List, [], Err, IfErr, IfOk, None}
 ghost use Rattle.tk_journal.specs.declared.entry.Entry.{Entry as AnEntry};
 ghost use Rattle.tk_journal.specs.Legal.{IsLegal};
 ghost use Rattle.tk_rounds.specs.declared.bench.Bench.{Bench as ABench};
-ghost use Rattle.tk_types.specs.Rejected.{IsRefusal};
+ghost use Rattle.tk_manifest.specs.declared.kinds.KindSet.TheVariants.{Four};
+ghost use Rattle.tk_admit.specs.Admit.{admitted, input_fault};
+ghost use Rattle.tk_types.specs.Rejected.{IsRefusal, Reads};
 ghost use Rattle.tk_run.specs.Asks.{asks_count};
 ghost use Rattle.tk_run.specs.Begun.{IsNewBench};
 ghost use Rattle.tk_run.specs.Going.{GoesOn, IsReady};
@@ -17,8 +19,8 @@ use std::sync::Wait;
 use tk_admit::admit;
 use tk_cache::Cache;
 use tk_edge::{Clock, Gate, Host};
-use tk_journal::Journal;
 use tk_journal::laws::legal_is_right;
+use tk_journal::{Admitted, Journal};
 use tk_manifest::{Document, KindSet};
 use tk_rounds::Bench;
 use tk_sound::laws::admitted_is_legal;
@@ -50,6 +52,14 @@ fn count_of(words: &[AskWord]) -> u32
     words.len().min(u32::MAX as usize) as u32
 }
 
+/// What is admitted of an input.
+fn admitted_of(alloc: Global, bytes: &[u8], asks: u32, root: &str) -> Result<Admitted, Rejected>
+    ensures admitted { Reads (input_fault Four asks bytes.now) (admitted Four asks root.now bytes.now) result }
+{
+    let document = Document::new(alloc, bytes)?;
+    admit(alloc, &document, KindSet::Four, asks, root)
+}
+
 /// What is admitted of an input, in a store, the root for each of so many nodes, and that none of the words was tried. It is
 /// refused for the input's first fault; the only other error is want of memory.
 fn prepare(
@@ -62,8 +72,7 @@ fn prepare(
     ensures ok { IfOk result (λ prepared. (fault_by words.now bytes.now ≡ None) × IsPrepared root.now words.now bytes.now nodes prepared.0 prepared.1.items prepared.2.items) }
     ensures err { IfErr result (IsRefusal (fault_by words.now bytes.now)) }
 {
-    let document = Document::new(alloc, bytes)?;
-    let admitted = admit(alloc, &document, KindSet::Four, count_of(words), root)?;
+    let admitted = admitted_of(alloc, bytes, count_of(words), root)?;
     admitted_is_legal();
     let store = Store::new(alloc, admitted)?;
     let roots = roots_of(alloc, root, nodes)?;

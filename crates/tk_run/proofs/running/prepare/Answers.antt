@@ -7,5 +7,5 @@ use Rattle.tk_run.proofs.running.prepare.Goals as goal
 
 pub new-requires : goal.new-requires
 new-requires c = record {
-  legal = subst (λ (a : Admitted). IsLegal (reverse a.entries)) (sym c.in_ok-admitted.ensures.admitted.1) (c.admitted_is_legal.ensures Four c.count_of.result c.args.root.now _ c.in_ok-admitted.ensures.admitted.0);
+  legal = subst (λ (a : Admitted). IsLegal (reverse a.entries)) (sym c.in_ok-admitted.ensures.admitted.1) (c.admitted_is_legal.ensures Four c.count_of.result c.args.root.now c.args.bytes.now c.in_ok-admitted.ensures.admitted.0);
 }
