@@ -1,6 +1,7 @@
 -- Ends of an input that is too long, and of one that is refused.
 use Rattle.std.proofs.Common.{◌≡◌, ℕ, ◌<◌, true, List, [], ◌∷◌, false, length, replicate, refl, subst, sym, ap, ◌∙◌, Some, None, arith, nat_lt, Bool, inl, inr}
-use Rattle.std.specs.Prelude.{Option, IfSome, flat_map, if◌then◌else◌}
+use Rattle.std.specs.Prelude.{Option, Result, Ok, Err, IfOk, IfSome, flat_map, if◌then◌else◌}
+use Rattle.std.specs.declared.alloc.AllocError.{AllocError}
 use Rattle.std.specs.List.{list_any}
 use Rattle.std.proofs.lemmas.List.{length-replicate}
 use Rattle.std.proofs.lemmas.Bool.Decides.{nat_tests}
@@ -26,7 +27,7 @@ use Rattle.tk_commands.specs.declared.command.Command.{Command}
 use Rattle.tk_commands.specs.declared.command.Command.TheVariants.{Check, Decide, Simulate}
 use Rattle.tk_commands.specs.declared.due.Due.{Due}
 use Rattle.tk_commands.specs.Answer.{IsAnswer, Simulates}
-use Rattle.tk_commands.specs.Due.{checked, rejected, root, status_of, IsDecided, IsDueBy, IsAnswered, IsRefusalDue}
+use Rattle.tk_commands.specs.Due.{checked, rejected, root, status_of, IsAnswered, IsDecided, IsDecideDue, IsDueBy, IsRefusalDue}
 use Rattle.tk_commands.specs.Plain.{IsReadDue, is_answer}
 
 -- the fault of an input that is longer than the longest
@@ -71,6 +72,17 @@ pub refused_due : (accepted : Admitted → Due → Type 0) (kinds : KindSet) (by
 refused_due accepted kinds bytes Memory due found told = absurd told
 refused_due accepted kinds bytes (FaultFound fault) due found told =
     subst (λ (finding : Finding). IsAnswered accepted (admitted kinds 0 root bytes) finding due) (sym found) told
+
+-- and what `decide` answers so
+pub decided_due : (bytes : List ℕ) (found : Admitted) (result : Result Due AllocError)
+    → input_fault WithOutcomes 0 bytes ≡ None → found ≡ admitted WithOutcomes 0 root bytes → IfOk result (IsDecided found.outcomes) → IfOk result (IsDecideDue bytes)
+decided_due bytes found (Ok due) none is told = admitted_due (λ (a : Admitted) (d : Due). IsDecided a.outcomes d) WithOutcomes bytes found due none is told
+decided_due bytes found (Err error) none is told = told
+
+pub refused_decision : (bytes : List ℕ) (error : Rejected) (result : Result Due AllocError)
+    → IsRefusal (input_fault WithOutcomes 0 bytes) error → IfOk result (IsRefusalDue error) → IfOk result (IsDecideDue bytes)
+refused_decision bytes error (Ok due) found told = refused_due (λ (a : Admitted) (d : Due). IsDecided a.outcomes d) WithOutcomes bytes error due found told
+refused_decision bytes error (Err none) found told = told
 
 -- `simulate` refuses so
 pub refused_answer : (json : Bool) (bytes : List ℕ) (error : Rejected) (answer : Answer)
