@@ -14,11 +14,10 @@ use crate::entries::entries;
 use crate::objects::take_all;
 use crate::weight::{check_weight, weight};
 use std::alloc::Global;
-use tk_fields::Location;
 use tk_journal::Admitted;
 use tk_manifest::{Document, KindSet, read_objects};
-use tk_types::{Detail, Item, MOST_OBJECTS, Rejected};
-use tk_validate::{told, validate};
+use tk_types::{Detail, Fault, Item, Location, MOST_OBJECTS, Rejected, told};
+use tk_validate::validate;
 
 /// Refuses too many objects.
 fn check_count(alloc: Global, items: &[Item]) -> Result<(), Rejected>
@@ -29,7 +28,12 @@ fn check_count(alloc: Global, items: &[Item]) -> Result<(), Rejected>
             limit: MOST_OBJECTS as u64,
             count: items.len() as u64,
         };
-        return Err(told(alloc, 21, &Location::root().key("items"), detail));
+        return Err(told(
+            alloc,
+            Fault::TOO_LARGE,
+            &Location::root().key("items"),
+            detail,
+        ));
     }
     Ok(())
 }

@@ -12,11 +12,11 @@ ghost use Rattle.tk_admit.specs.Sound.{HasFewChildren, HasFewEach, IsSound, IsTa
 use crate::taken::Taken;
 use std::alloc::{AllocError, Global};
 use tk_early::RunValues;
-use tk_fields::Location;
 use tk_journal::Admission;
 use tk_names::{child_name, clash};
-use tk_types::{Detail, List, PipelineTask, Place, Rejected, RunSpec, Text, TryCopy};
-use tk_validate::told;
+use tk_types::{
+    Detail, Fault, List, Location, PipelineTask, Place, Rejected, RunSpec, Text, TryCopy, told,
+};
 
 /// A number of children, which are few.
 fn few(children: Option<u64>) -> Option<u32>
@@ -147,7 +147,7 @@ fn clashing(alloc: Global, owners: &[&Place], earlier: u32, later: u32) -> Rejec
     match owners[earlier as usize].copy(alloc) {
         Ok(earlier) => {
             let place = Location::of(owners[later as usize]);
-            told(alloc, 20, &place, Detail::Earlier(earlier))
+            told(alloc, Fault::NAME_CLASH, &place, Detail::Earlier(earlier))
         }
         Err(_) => Rejected::Memory,
     }

@@ -13,11 +13,12 @@ use crate::facts::facts_of;
 use crate::objects::one_name;
 use crate::taken::Taken;
 use std::alloc::{AllocError, Global};
-use tk_fields::{Location, refusal};
 use tk_journal::Admission;
 use tk_manifest::KindSet;
-use tk_types::{Facts, Item, ItemObject, Rejected, RunSpec, Scenario, Text, TryCopy};
-use tk_validate::told;
+use tk_types::{
+    Facts, Fault, Item, ItemObject, Location, Rejected, RunSpec, Scenario, Text, TryCopy, refusal,
+    told,
+};
 
 /// The PipelineRuns among the runs that are taken in.
 fn runs_of<'a>(alloc: Global, runs: &'a [Taken]) -> Result<Vec<&'a RunSpec>, AllocError>
@@ -73,7 +74,7 @@ fn check_some<T>(alloc: Global, found: &[T]) -> Result<(), Rejected>
     ensures { Reads (missing found.now) tt result }
 {
     match found {
-        [] => Err(refusal(alloc, 5, &Location::root())),
+        [] => Err(refusal(alloc, Fault::MISSING_FIELD, &Location::root())),
         _ => Ok(()),
     }
 }
@@ -83,7 +84,7 @@ fn refuse_second(alloc: Global, name: &Text) -> Rejected
     ensures { IsRefusal (Some (duplicate root_place name.now)) result }
 {
     match one_name(alloc, name) {
-        Ok(detail) => told(alloc, 9, &Location::root(), detail),
+        Ok(detail) => told(alloc, Fault::DUPLICATE, &Location::root(), detail),
         Err(_) => Rejected::Memory,
     }
 }

@@ -15,12 +15,10 @@ use crate::laws::facts_are_well_formed;
 use crate::objects::one_name;
 use crate::task_places::TaskPlaces;
 use std::alloc::Global;
-use tk_fields::Location;
 use tk_types::{
-    Child, Facts, Item, ItemObject, List, OutcomesChild, OutcomesSpec, Place, Rejected, RunSpec,
-    TryCopy,
+    Child, Facts, Fault, Item, ItemObject, List, Location, OutcomesChild, OutcomesSpec, Place,
+    Rejected, RunSpec, TryCopy, told,
 };
-use tk_validate::told;
 
 /// A child with the place of its task, if it is of a task of the run.
 fn placed(
@@ -33,7 +31,7 @@ fn placed(
 {
     let Some(task) = task else {
         let detail = one_name(alloc, &child.task)?;
-        return Err(told(alloc, 12, &place.key("task"), detail));
+        return Err(told(alloc, Fault::UNKNOWN_TASK, &place.key("task"), detail));
     };
     Ok(Child {
         task,
@@ -54,7 +52,7 @@ fn check_new<'a>(
 {
     if stood.add(child)? {
         let detail = one_name(alloc, &child.task)?;
-        return Err(told(alloc, 9, place, detail));
+        return Err(told(alloc, Fault::DUPLICATE, place, detail));
     }
     Ok(())
 }

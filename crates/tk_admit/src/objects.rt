@@ -17,15 +17,13 @@ use crate::taken::{Taken, taken_item};
 use std::alloc::{AllocError, Global};
 use tk_early::RunValues;
 use tk_early::laws::few_children;
-use tk_fields::Location;
 use tk_journal::Admission;
 use tk_resolve::Earlier;
 use tk_types::{
-    Detail, Item, ItemObject, List, MOST_COMBINATIONS, PipelineTask, Place, Rejected, RunSpec,
-    Text, TryCopy,
+    Detail, Fault, Item, ItemObject, List, Location, MOST_COMBINATIONS, PipelineTask, Place,
+    Rejected, RunSpec, Text, TryCopy, told,
 };
 use tk_validate::laws::valid_reads;
-use tk_validate::told;
 
 /// Whether another object has the kind and the name.
 fn is_same_object(object: &ItemObject, other: &Item) -> bool
@@ -56,7 +54,7 @@ fn check_name(alloc: Global, earlier: &[Item], item: &Item) -> Result<(), Reject
 {
     if stood_before(earlier, &item.object) {
         let detail = one_name(alloc, item.object.name())?;
-        return Err(told(alloc, 9, &Location::of(&item.place), detail));
+        return Err(told(alloc, Fault::DUPLICATE, &Location::of(&item.place), detail));
     }
     Ok(())
 }
@@ -79,7 +77,7 @@ fn check_task(
                 limit: u64::from(MOST_COMBINATIONS),
                 count,
             };
-            Err(told(alloc, 21, &Location::of(place), detail))
+            Err(told(alloc, Fault::TOO_LARGE, &Location::of(place), detail))
         }
         _ => Ok(()),
     }

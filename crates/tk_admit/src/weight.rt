@@ -13,12 +13,11 @@ ghost use Rattle.tk_admit.specs.Weight.{asks_of as asks_of_item, is_ask as is_as
 use crate::taken::Taken;
 use std::alloc::{AllocError, Global};
 use tk_early::RunValues;
-use tk_fields::Location;
 use tk_journal::Admission;
 use tk_types::{
-    Detail, Event, Item, ItemObject, MOST_WEIGHT, PipelineTask, Rejected, RunSpec, TaskBody,
+    Detail, Event, Fault, Item, ItemObject, Location, MOST_WEIGHT, PipelineTask, Rejected, RunSpec,
+    TaskBody, told,
 };
-use tk_validate::told;
 
 /// The weight of a TaskRun with these retries and this body.
 fn child_weight(retries: u32, body: &TaskBody) -> u64
@@ -152,7 +151,7 @@ pub(crate) fn check_weight(alloc: Global, weight: u64) -> Result<(), Rejected>
             limit: MOST_WEIGHT,
             count: weight,
         };
-        return Err(told(alloc, 21, &Location::root(), detail));
+        return Err(told(alloc, Fault::TOO_LARGE, &Location::root(), detail));
     }
     Ok(())
 }

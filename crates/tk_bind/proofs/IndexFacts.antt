@@ -7,7 +7,7 @@ use Rattle.tk_types.specs.declared.value.Value.{Value}
 use Rattle.tk_types.specs.Value.{value_named}
 use Rattle.tk_bind.specs.declared.env.Given.{Given}
 use Rattle.tk_bind.specs.Substitute.{result_named}
-use Rattle.tk_bind.proofs.FirstFound.{find_more, bytes_eq-swap}
+use Rattle.tk_types.proofs.FirstFound.{find_more, bytes_eq-swap}
 
 same_name : (a b : List ℕ) → bytes_eq a b ≡ true → a ≡ b
 same_name a b is = (bytes_eq-Decides a b).0 is

@@ -2,7 +2,6 @@ pub mod AlikeSteps
 pub mod AllOk
 pub mod BindingExamples
 pub mod CheckExamples
-pub mod FirstFound
 pub mod FittingExamples
 pub mod Gathering
 pub mod IndexFacts

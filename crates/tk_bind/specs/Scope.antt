@@ -1,20 +1,16 @@
 -- What the references of a text may name (Tekton, Pipelines, Variable Substitutions Supported by Tasks and Pipelines).
 use Rattle.std.specs.Prelude.{ℕ, Bool, true, false, not, ◌&&◌, ◌||◌, if◌then◌else◌, List, [], ◌∷◌, Option, Some, None, codes, bytes_eq, find, is_some}
-use Rattle.std.specs.List.{list_any}
 use Rattle.std.specs.Option.{option_map_or}
 use Rattle.tk_types.specs.declared.value.ParamSpec.{ParamSpec}
 use Rattle.tk_types.specs.declared.value.ParamType.{ParamType}
 use Rattle.tk_types.specs.declared.value.ParamType.TheVariants.{Str as string, Arr as array, Obj as object}
+use Rattle.tk_types.specs.Names.{is_in}
 use Rattle.tk_vars.specs.declared.part.Part.{Part}
 use Rattle.tk_vars.specs.declared.part.Part.TheVariants.{Name, Index, Star}
 use Rattle.tk_vars.specs.declared.reference.Reference.{Reference}
 use Rattle.tk_vars.specs.Reading.{ends_with_star}
 use Rattle.tk_vars.specs.Target.{Target, param, result, word, target_of}
 use Rattle.tk_bind.specs.declared.scope.Scope.{Scope}
-
--- the text is in the list
-abbrev pub is_in : List (List ℕ) → List ℕ → Bool
-is_in texts text = list_any (bytes_eq text) texts
 
 -- the declaration of a parameter
 abbrev pub declared : List ParamSpec → List ℕ → Option ParamSpec

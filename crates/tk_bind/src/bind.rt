@@ -5,10 +5,9 @@ ghost use Rattle.tk_bind.specs.Bind.{has_keys, first_value, bound_to, bound_para
 ghost use Rattle.tk_bind.specs.Refusal.{IsBindRefusal};
 
 use crate::completing::completed;
-use crate::index::FirstNamed;
 use crate::refusal::BindError;
 use std::alloc::{AllocError, Global};
-use tk_types::{List, Pair, Param, ParamSpec, ParamType, Text, TryCopy, Value};
+use tk_types::{FirstNamed, List, Pair, Param, ParamSpec, ParamType, Text, TryCopy, Value};
 
 /// Where values are sought, by their names: what is given, what is given outside and the defaults outside.
 #[derive(Drop)]

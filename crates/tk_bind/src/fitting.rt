@@ -99,22 +99,12 @@ fn push_spaces(
     Ok(())
 }
 
-/// Adds copies of parameters.
-fn push_params(alloc: Global, made: &mut List<Param>, params: &[Param]) -> Result<(), AllocError>
-    ensures { OnOk result (made.new ≡ made.old ++ params.now) }
-{
-    for param in params {
-        made.push(param.copy(alloc)?)?;
-    }
-    Ok(())
-}
-
 /// What the texts of a body's steps see, with these parameters in front. The only error is want of memory.
 pub fn step_env(alloc: Global, body: &TaskBody, mut params: List<Param>) -> Result<Env, AllocError>
     ensures { IfOk result (λ env. env ≡ step_env body.now params) }
 {
-    push_params(alloc, &mut params, body.outer.as_slice())?;
-    push_params(alloc, &mut params, body.fallback.as_slice())?;
+    params.push_all(alloc, body.outer.as_slice())?;
+    params.push_all(alloc, body.fallback.as_slice())?;
     let mut words = context_words(alloc)?;
     push_results(alloc, &mut words, body.spec.results.as_slice())?;
     push_spaces(alloc, &mut words, body.spec.spaces.as_slice())?;
@@ -198,7 +188,7 @@ pub fn fits(alloc: Global, body: &TaskBody, given: &[Param]) -> Result<bool, All
         Err(BindError::Memory) => return Err(AllocError),
         Err(_) => return Ok(false),
     };
-    push_params(alloc, &mut params, given)?;
+    params.push_all(alloc, given)?;
     let env = step_env(alloc, body, params)?;
     let index = index_of(alloc, &env)?;
     let lookup = Lookup::new(&index, &[]);

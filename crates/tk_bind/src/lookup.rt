@@ -7,7 +7,6 @@ ghost use Rattle.tk_bind.specs.Substitute.{result_named, target_value, reference
 
 use crate::env::{Env, Given};
 use crate::found::Found;
-use crate::index::FirstNamed;
 use crate::key::{key_of, key_part};
 use crate::param_index::ParamIndex;
 use crate::results::TaskResults;
@@ -15,7 +14,7 @@ use crate::target::{Target, target_of};
 use crate::value_index::ValueIndex;
 use std::alloc::{AllocError, Global};
 use std::marker::Model;
-use tk_types::{Pair, Param, Text};
+use tk_types::{FirstNamed, Pair, Param, Text};
 use tk_vars::{Part, Reference};
 
 /// Values by name, indexed. A contract sees them as an environment.

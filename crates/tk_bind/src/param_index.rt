@@ -6,12 +6,11 @@ ghost use Rattle.tk_bind.specs.Found.{found_value};
 ghost use Rattle.tk_bind.specs.Selector.{selected};
 
 use crate::found::Found;
-use crate::index::FirstNamed;
 use crate::value_index::{ValueIndex, add_named, is_long};
 use std::alloc::{AllocError, Global};
 use std::collections::HashMap;
 use std::marker::Model;
-use tk_types::{Param, Value};
+use tk_types::{FirstNamed, Param, Value};
 use tk_vars::Part;
 
 /// Parameters that are found by their names, and the keys of their values by an index. A contract sees the parameters.

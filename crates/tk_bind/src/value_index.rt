@@ -7,11 +7,10 @@ ghost use Rattle.tk_bind.specs.Found.{found_value};
 ghost use Rattle.tk_bind.specs.Selector.{selected};
 
 use crate::found::Found;
-use crate::index::{FEW, FirstNamed};
 use std::alloc::{AllocError, Global};
 use std::collections::HashMap;
 use std::marker::Model;
-use tk_types::{Pair, Text, Value};
+use tk_types::{FEW, FirstNamed, Pair, Text, Value};
 use tk_vars::Part;
 
 /// A value by its type, its keys indexed.

@@ -128,7 +128,8 @@ fn row_fault(alloc: Global, scope: &Scope, line: &str) -> Result<String, AllocEr
         "part" => false,
         _ => return String::from_str(alloc, "no such word"),
     };
-    fault(alloc, check_text(alloc, text, scope, whole))
+    let names = ScopeNames::new(alloc, scope)?;
+    fault(alloc, check_text(alloc, text, &names, whole))
 }
 
 #[test]
@@ -143,20 +144,5 @@ fn checks_texts(rt: HostRuntime) -> Result<(), Fail> {
             "of {line}"
         );
     }
-    Ok(())
-}
-
-/// What is wrong with a text by an index of the scope.
-fn indexed_fault(alloc: Global, scope: &Scope, text: &str) -> Result<String, AllocError> {
-    let names = ScopeNames::new(alloc, scope)?;
-    fault(alloc, names.check(alloc, text, false))
-}
-
-#[test]
-fn checks_by_an_index(rt: HostRuntime) -> Result<(), Fail> {
-    let alloc = rt.alloc();
-    let scope = scope(alloc)?;
-    let found = indexed_fault(alloc, &scope, "$(params.q)")?;
-    assert_eq!(rt; found.as_str(), "unknown $(params.q)");
     Ok(())
 }

@@ -12,7 +12,8 @@ use Rattle.tk_types.specs.Fault.{too_long}
 use Rattle.tk_types.specs.First.{Finding, first_of, refused_if}
 use Rattle.tk_manifest.specs.declared.kinds.KindSet.{KindSet}
 use Rattle.tk_manifest.specs.declared.kinds.KindSet.TheVariants.{Four, WithOutcomes, WithScenario}
-use Rattle.tk_manifest.specs.Input.{json_fault, json_of, objects_of}
+use Rattle.tk_types.specs.Json.{json_of}
+use Rattle.tk_manifest.specs.Input.{json_fault, objects_of}
 use Rattle.tk_journal.specs.declared.admitted.Admitted.{Admitted}
 use Rattle.tk_admit.specs.Admit.{admitted, input_fault, items_fault}
 use Rattle.tk_types.specs.declared.run.Facts.{Facts}

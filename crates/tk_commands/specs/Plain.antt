@@ -4,7 +4,7 @@ use Rattle.std.specs.Io.KnownBytes.{Appends}
 use Rattle.tk_journal.specs.declared.entry.Entry.{Entry}
 use Rattle.tk_commands.specs.declared.answer.Answer.{Answer}
 use Rattle.tk_commands.specs.declared.command.Command.{Command}
-use Rattle.tk_manifest.specs.Input.{longest_input}
+use Rattle.tk_types.specs.Limits.{longest_input}
 use Rattle.tk_commands.specs.Answer.{IsAnswer}
 use Rattle.tk_commands.specs.Written.{AppendsFront}
 

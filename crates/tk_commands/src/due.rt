@@ -2,8 +2,6 @@ ghost use Rattle.std.specs.Prelude.{◌≡◌, ◌<◌, ◌^◌, ◌++◌, None,
 ghost use Rattle.std.specs.List.{enumerate_from};
 ghost use Rattle.tk_verdict.specs.Condition.{results_of};
 ghost use Rattle.tk_verdict.specs.Facts.{all_tasks};
-ghost use Rattle.tk_verdict.specs.Texts.{skip_text as text_of_skip, stop_text as text_of_stop};
-ghost use Rattle.tk_verdict.specs.Verdict.{label_at as label_of_place};
 ghost use Rattle.tk_journal.specs.Legal.{IsLegal};
 ghost use Rattle.tk_report.specs.Objects.{HasMoments};
 ghost use Rattle.tk_commands.specs.Answer.{reported as reported_by, reported_text as text_of_report};
@@ -11,9 +9,10 @@ ghost use Rattle.tk_commands.specs.Due.{checked as checked_objects, condition_wo
 
 use std::alloc::{AllocError, Global};
 use tk_journal::Journal;
-use tk_report::{report, report_json, status};
+use tk_report::{report, report_json, skip_text, status};
 use tk_results::json_text;
-use tk_types::{Condition, Facts, Fault, Param, PipelineTask, SkipReason, Stop, Text, Verdict};
+use tk_types::{Condition, Facts, Fault, Param, PipelineTask, Text, Verdict};
+use tk_verdict::judging::label_at;
 
 /// What a command prints, and the status with which it ends.
 #[derive(Drop)]
@@ -33,34 +32,6 @@ fn label_word(label: Verdict) -> &'static str
         Verdict::Ready => "ready",
         Verdict::Waits => "waits",
         Verdict::Wrong => "wrong",
-    }
-}
-
-/// Why a stop skips a task.
-fn stop_text(stop: Stop) -> &'static str
-    ensures { result.now ≡ text_of_stop stop }
-{
-    match stop {
-        Stop::Failure => "PipelineRun was stopping",
-        Stop::StoppedRunFinally => "PipelineRun was gracefully stopped",
-        Stop::CancelledRunFinally => "PipelineRun was gracefully cancelled",
-        Stop::TasksTimeout => "PipelineRun Tasks timeout has been reached",
-        Stop::FinallyTimeout => "PipelineRun Finally timeout has been reached",
-        Stop::Cancelled => "PipelineRun was cancelled",
-        Stop::PipelineTimeout => "PipelineRun timeout has been reached",
-    }
-}
-
-/// Why a task is skipped (Tekton, PipelineRuns, Monitoring execution status).
-fn skip_text(reason: SkipReason) -> &'static str
-    ensures { result.now ≡ text_of_skip reason }
-{
-    match reason {
-        SkipReason::Parent => "Parent Tasks were skipped",
-        SkipReason::Missing | SkipReason::Broken => "Results were missing",
-        SkipReason::When => "When Expressions evaluated to false",
-        SkipReason::EmptyMatrix => "Matrix Parameters have an empty array",
-        SkipReason::Stopped(stop) => stop_text(stop),
     }
 }
 
@@ -133,13 +104,6 @@ fn status_of(condition: &Option<Condition>) -> u8
         Some(condition) if condition.holds => 0,
         Some(_) => 1,
     }
-}
-
-/// The label at a place.
-fn label_at(labels: &[Verdict], place: usize) -> Verdict
-    ensures { result ≡ label_of_place labels.now place }
-{
-    labels.get(place).copied().unwrap_or(Verdict::Waits)
 }
 
 /// Writes a line for each task with the label of its place behind `text`; the first task has this place.

@@ -12,8 +12,8 @@ use crate::words::task_words;
 use std::alloc::{AllocError, Global};
 use std::marker::Model;
 use tk_bind::{EnvIndex, Lookup, matrix_in};
-use tk_matrix::{MAX_COMBINATIONS, count};
-use tk_types::{List, Matrix, Pair, PipelineTask, RunSpec};
+use tk_matrix::count;
+use tk_types::{List, MOST_COMBINATIONS, Matrix, Pair, PipelineTask, RunSpec};
 
 /// A resolved run, whose parameters are found by their names. A contract sees the run.
 #[derive(Drop)]
@@ -95,7 +95,7 @@ impl<'a> RunValues<'a> {
             return Ok(None);
         }
         let count = self.settled_count(alloc, task)?;
-        Ok(Some(count.unwrap_or(u64::from(MAX_COMBINATIONS))))
+        Ok(Some(count.unwrap_or(u64::from(MOST_COMBINATIONS))))
     }
 }
 

@@ -13,15 +13,13 @@
 //! };
 //! ```
 //!
-//! and behind the last field the rules between fields, as `just_one`. Where a value stands is a `Location`, whose steps
-//! refer to each other; a place is made only where a fault is told. An object of more than about five fields is read in parts, its keys
+//! and behind the last field the rules between fields, as `just_one`. Where a value stands is a `Location` of `tk_types`. An object of more than about five fields is read in parts, its keys
 //! and some fields at a time, each by a function of its own whose check is an `unfoldable` definition; the check of
 //! the whole is `in_order` of them.
 #![tactic(auto)]
 
 pub mod laws;
 mod list;
-mod location;
 mod members;
 mod number;
 mod object;
@@ -30,7 +28,6 @@ mod table;
 mod text;
 
 pub use list::{Each, SomeOf, elements_of};
-pub use location::{Location, place_at, refusal};
 pub use members::{EachMember, Entry, TextEntry};
 pub use number::{Below8, Below32, NumberRule, NumberThat, Truth};
 pub use object::{check_object, just_one, object_at};

@@ -5,12 +5,11 @@ ghost use Rattle.tk_types.specs.First.{first_in};
 ghost use Rattle.tk_fields.specs.Check.{each, some_of};
 ghost use Rattle.tk_fields.specs.Get.{elements, is_array, list_of};
 
-use crate::location::{Location, refusal};
 use crate::reader::{OrEmpty, Reader};
 use serde_json::Value;
 use std::alloc::Global;
 use std::marker::PhantomData;
-use tk_types::{List, Rejected};
+use tk_types::{Fault, List, Location, Rejected, refusal};
 
 /// The elements of an array, and None for any other value.
 pub fn elements_of(value: &Value) -> Option<&[Value]>
@@ -51,7 +50,7 @@ impl<R: Reader> Reader for Each<R> {
     fn read(alloc: Global, value: &Value, place: &Location<'_>) -> Result<List<R::Out>, Rejected> {
         match elements_of(value) {
             Some(items) => read_elements::<R>(alloc, items, place),
-            None => Err(refusal(alloc, 2, place)),
+            None => Err(refusal(alloc, Fault::WRONG_SHAPE, place)),
         }
     }
 }
@@ -74,9 +73,9 @@ impl<R: Reader> Reader for SomeOf<R> {
 
     fn read(alloc: Global, value: &Value, place: &Location<'_>) -> Result<List<R::Out>, Rejected> {
         match elements_of(value) {
-            Some([]) => Err(refusal(alloc, 5, place)),
+            Some([]) => Err(refusal(alloc, Fault::MISSING_FIELD, place)),
             Some(items) => read_elements::<R>(alloc, items, place),
-            None => Err(refusal(alloc, 2, place)),
+            None => Err(refusal(alloc, Fault::WRONG_SHAPE, place)),
         }
     }
 }

@@ -5,13 +5,12 @@ ghost use Rattle.tk_types.specs.Rejected.{Reads};
 ghost use Rattle.tk_fields.specs.Check.{each_member, first_member};
 ghost use Rattle.tk_fields.specs.Get.{members, members_of, pair};
 
-use crate::location::{Location, refusal};
 use crate::reader::{OrEmpty, Reader};
 use crate::text::AnyText;
 use serde_json::{Map, Value};
 use std::alloc::Global;
 use std::marker::PhantomData;
-use tk_types::{List, Pair, Rejected, Text};
+use tk_types::{Fault, List, Location, Pair, Rejected, Text, refusal};
 
 /// What a member of an object says, by its key and its value.
 pub trait Entry {
@@ -59,7 +58,7 @@ impl<E: Entry> Reader for EachMember<E> {
     fn read(alloc: Global, value: &Value, place: &Location<'_>) -> Result<List<E::Out>, Rejected> {
         match value {
             Value::Object(object) => read_members::<E>(alloc, object, place),
-            _ => Err(refusal(alloc, 2, place)),
+            _ => Err(refusal(alloc, Fault::WRONG_SHAPE, place)),
         }
     }
 }

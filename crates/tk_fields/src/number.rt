@@ -4,12 +4,11 @@ ghost use Rattle.tk_types.specs.declared.fault.Detail.TheVariants.{Nothing};
 ghost use Rattle.tk_fields.specs.Check.{number_below, number_that, truth};
 ghost use Rattle.tk_fields.specs.Get.{number_of, truth_of};
 
-use crate::location::{Location, refusal};
 use crate::reader::{OrEmpty, Reader};
 use serde_json::Value;
 use std::alloc::Global;
 use std::marker::PhantomData;
-use tk_types::Rejected;
+use tk_types::{Fault, Location, Rejected, refusal};
 
 /// A truth value.
 pub struct Truth;
@@ -24,7 +23,7 @@ impl Reader for Truth {
     fn read(alloc: Global, value: &Value, place: &Location<'_>) -> Result<bool, Rejected> {
         match value.as_bool() {
             Some(holds) => Ok(holds),
-            None => Err(refusal(alloc, 2, place)),
+            None => Err(refusal(alloc, Fault::WRONG_SHAPE, place)),
         }
     }
 }
@@ -48,7 +47,7 @@ impl Reader for Below8 {
     fn read(alloc: Global, value: &Value, place: &Location<'_>) -> Result<u8, Rejected> {
         match value.as_u64() {
             Some(number) if number < 256 => Ok(number as u8),
-            _ => Err(refusal(alloc, 2, place)),
+            _ => Err(refusal(alloc, Fault::WRONG_SHAPE, place)),
         }
     }
 }
@@ -66,7 +65,7 @@ impl Reader for Below32 {
     fn read(alloc: Global, value: &Value, place: &Location<'_>) -> Result<u32, Rejected> {
         match value.as_u64() {
             Some(number) if number < 4294967296 => Ok(number as u32),
-            _ => Err(refusal(alloc, 2, place)),
+            _ => Err(refusal(alloc, Fault::WRONG_SHAPE, place)),
         }
     }
 }
@@ -106,7 +105,7 @@ impl<T: NumberRule> Reader for NumberThat<T> {
 
     fn read(alloc: Global, value: &Value, place: &Location<'_>) -> Result<u64, Rejected> {
         let Some(number) = value.as_u64() else {
-            return Err(refusal(alloc, 2, place));
+            return Err(refusal(alloc, Fault::WRONG_SHAPE, place));
         };
         if !T::is_obeyed(number) {
             return Err(refusal(alloc, T::number(), place));

@@ -7,11 +7,10 @@ ghost use Rattle.tk_fields.specs.Get.{is_object};
 ghost use Rattle.tk_fields.specs.Keys.{rows_of};
 ghost use Rattle.tk_fields.specs.Shape.{just_one as exactly_one, object_by};
 
-use crate::location::{Location, refusal};
 use crate::table::{FieldTable, Key, check_fields};
 use serde_json::{Map, Value};
 use std::alloc::Global;
-use tk_types::Rejected;
+use tk_types::{Fault, Location, Rejected, refusal};
 
 /// The members of an object; any other value is `WrongShape`.
 pub fn object_at<'a>(
@@ -24,7 +23,7 @@ pub fn object_at<'a>(
 {
     match value {
         Value::Object(object) => Ok(object),
-        _ => Err(refusal(alloc, 2, place)),
+        _ => Err(refusal(alloc, Fault::WRONG_SHAPE, place)),
     }
 }
 

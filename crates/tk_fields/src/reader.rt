@@ -6,10 +6,9 @@ ghost use Rattle.tk_fields.specs.Check.{Check};
 ghost use Rattle.tk_fields.specs.Get.{at, field};
 ghost use Rattle.tk_fields.specs.Shape.{field_finding, optional as optional_field, required as required_field};
 
-use crate::location::{Location, refusal};
 use serde_json::Value;
 use std::alloc::Global;
-use tk_types::Rejected;
+use tk_types::{Fault, Location, Rejected, refusal};
 
 /// A form of JSON value: which values have it, and what they say. Its reader gives exactly that.
 pub trait Reader {
@@ -46,7 +45,7 @@ pub fn required<R: Reader>(
 {
     match object.get(key) {
         Some(value) => R::read(alloc, value, &place.key(key)),
-        None => Err(refusal(alloc, 5, &place.key(key))),
+        None => Err(refusal(alloc, Fault::MISSING_FIELD, &place.key(key))),
     }
 }
 

@@ -5,10 +5,9 @@ ghost use Rattle.serde_json.specs.View.{members_view};
 ghost use Rattle.tk_fields.specs.Get.{keys_of};
 ghost use Rattle.tk_fields.specs.Keys.{role_among, key_finding, first_bad_key, rows_of};
 
-use crate::location::{Location, refusal};
 use serde_json::{Map, Value};
 use std::alloc::Global;
-use tk_types::Rejected;
+use tk_types::{Location, Rejected, refusal};
 
 /// What becomes of a key that a table names.
 #[derive(Clone, Copy, Debug, PartialEq, Eq)]

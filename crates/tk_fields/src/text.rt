@@ -5,12 +5,11 @@ ghost use Rattle.tk_types.specs.declared.fault.Detail.TheVariants.{Nothing};
 ghost use Rattle.tk_fields.specs.Check.{one_of, text, text_that};
 ghost use Rattle.tk_fields.specs.Get.{text_of};
 
-use crate::location::{Location, refusal};
 use crate::reader::{OrEmpty, Reader};
 use serde_json::Value;
 use std::alloc::Global;
 use std::marker::PhantomData;
-use tk_types::{Rejected, Text};
+use tk_types::{Fault, Location, Rejected, Text, refusal};
 
 /// Any text.
 pub struct AnyText;
@@ -25,7 +24,7 @@ impl Reader for AnyText {
     fn read(alloc: Global, value: &Value, place: &Location<'_>) -> Result<Text, Rejected> {
         match value.as_str() {
             Some(text) => Ok(Text::from_str(alloc, text)?),
-            None => Err(refusal(alloc, 2, place)),
+            None => Err(refusal(alloc, Fault::WRONG_SHAPE, place)),
         }
     }
 }
@@ -65,7 +64,7 @@ impl<T: TextRule> Reader for TextThat<T> {
 
     fn read(alloc: Global, value: &Value, place: &Location<'_>) -> Result<Text, Rejected> {
         let Some(text) = value.as_str() else {
-            return Err(refusal(alloc, 2, place));
+            return Err(refusal(alloc, Fault::WRONG_SHAPE, place));
         };
         if !T::is_obeyed(text) {
             return Err(refusal(alloc, T::number(), place));
@@ -102,11 +101,11 @@ impl<W: Words> Reader for OneOf<W> {
 
     fn read(alloc: Global, value: &Value, place: &Location<'_>) -> Result<W::Meaning, Rejected> {
         let Some(word) = value.as_str() else {
-            return Err(refusal(alloc, 2, place));
+            return Err(refusal(alloc, Fault::WRONG_SHAPE, place));
         };
         match W::meaning_of(word) {
             Some(meaning) => Ok(meaning),
-            None => Err(refusal(alloc, 11, place)),
+            None => Err(refusal(alloc, Fault::BAD_CHOICE, place)),
         }
     }
 }

@@ -16,7 +16,7 @@ use Rattle.tk_vars.specs.Reading.{HasReading}
 use Rattle.tk_graph.specs.Parents.{parents, parent_names}
 use Rattle.tk_graph.specs.Results.{text_results}
 use Rattle.tk_graph.specs.Unknown.{is_known}
-use Rattle.tk_verdict.specs.Facts.{level_of}
+use Rattle.tk_types.specs.Behaviour.{level_of}
 use Rattle.tk_verdict.specs.Gives.{label_of}
 use Rattle.tk_verdict.specs.Texts.{skip_text}
 use Rattle.tk_journal.specs.declared.act.Act.{Act}

@@ -11,11 +11,11 @@ use std::alloc::{AllocError, Global};
 use std::process::Abort;
 use std::test::Fail;
 use tk_fields::{
-    AnyText, Below8, Below32, Each, EachMember, FieldTable, Location, NumberRule, NumberThat,
-    OneOf, Reader, SomeOf, TextEntry, TextRule, TextThat, Truth, Words, check_object, field_table,
-    just_one, optional, or_empty, required,
+    AnyText, Below8, Below32, Each, EachMember, FieldTable, NumberRule, NumberThat, OneOf, Reader,
+    SomeOf, TextEntry, TextRule, TextThat, Truth, Words, check_object, field_table, just_one,
+    optional, or_empty, required,
 };
-use tk_types::{List, Rejected, Text};
+use tk_types::{List, Location, Rejected, Text};
 
 /// The line of a refusal, and `read` where there is none.
 fn told<T: Drop>(alloc: Global, outcome: Result<T, Rejected>) -> Result<Text, AllocError> {

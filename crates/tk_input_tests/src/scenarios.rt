@@ -4,9 +4,8 @@ use serde_json::Value;
 use std::alloc::{AllocError, Global};
 use std::process::Abort;
 use std::test::Fail;
-use tk_fields::Location;
 use tk_scenario::read_scenario;
-use tk_types::{Event, Rejected, Scenario, Text};
+use tk_types::{Event, Location, Rejected, Scenario, Text};
 
 /// The line of a refusal, and `read` where there is none.
 fn told(alloc: Global, outcome: Result<Scenario, Rejected>) -> Result<Text, AllocError> {

@@ -13,7 +13,8 @@ use Rattle.tk_types.specs.declared.verdict.Verdict.TheVariants as labels
 use Rattle.tk_verdict.specs.WellFormed.{IsWellFormed}
 use Rattle.tk_verdict.specs.Moves.{GainsOutcomes, Moves, by_outcomes, by_stop, by_children}
 use Rattle.tk_verdict.specs.Gives.{HasNoChildren, Gives, label_of}
-use Rattle.tk_verdict.specs.Facts.{level_of, children_at}
+use Rattle.tk_types.specs.Behaviour.{level_of}
+use Rattle.tk_verdict.specs.Facts.{children_at}
 use Rattle.tk_types.specs.declared.scenario.Kind.TheVariants as kinds
 use Rattle.tk_types.specs.declared.object.Asked.{Asked}
 use Rattle.tk_types.specs.declared.object.Asked.TheVariants as asks

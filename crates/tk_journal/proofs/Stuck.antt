@@ -14,7 +14,8 @@ use Rattle.tk_types.specs.declared.verdict.Binding.{Binding}
 use Rattle.tk_types.specs.declared.verdict.Verdict.TheVariants as labels
 use Rattle.tk_verdict.specs.WellFormed.{IsWellFormed}
 use Rattle.tk_verdict.specs.Gives.{HasNoChildren, label_of}
-use Rattle.tk_verdict.specs.Facts.{level_of, is_good}
+use Rattle.tk_types.specs.Behaviour.{level_of}
+use Rattle.tk_verdict.specs.Facts.{is_good}
 use Rattle.tk_types.specs.declared.scenario.Kind.{Kind}
 use Rattle.tk_types.specs.declared.scenario.Kind.TheVariants as kinds
 use Rattle.tk_journal.specs.declared.entry.Actor.{Actor}

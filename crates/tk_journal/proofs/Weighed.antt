@@ -27,7 +27,7 @@ use Rattle.tk_journal.specs.Names.{task_at, child_name_of, possible_count}
 use Rattle.tk_journal.specs.History.{View, past, run_of, run_written, task_run_of, task_run_written, pod_of, view_at}
 use Rattle.tk_journal.specs.Rows.{IsJustified}
 use Rattle.tk_journal.specs.RunRows.{MakeTaskRunRow}
-use Rattle.tk_verdict.specs.Facts.{level_of}
+use Rattle.tk_types.specs.Behaviour.{level_of}
 use Rattle.tk_journal.specs.Right.{Lasting, LastingTaskRun, facts_at, EndedAttempt}
 use Rattle.tk_journal.specs.Legal.{IsLegal, IsStep, IsWritable, IsCurrent, Fits}
 use Rattle.tk_journal.specs.Weight.{weight}

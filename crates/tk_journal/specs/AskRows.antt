@@ -3,7 +3,7 @@ use Rattle.std.specs.Prelude.{◌≡◌, ◌<◌, ℕ, List, None, true, false, 
 use Rattle.tk_types.specs.declared.object.Asked.{Asked}
 use Rattle.tk_journal.specs.declared.object.RunState.{RunState}
 use Rattle.tk_journal.specs.declared.object.TaskRunState.{TaskRunState}
-use Rattle.tk_verdict.specs.Facts.{level_of}
+use Rattle.tk_types.specs.Behaviour.{level_of}
 use Rattle.tk_journal.specs.Lists.{Has}
 use Rattle.tk_journal.specs.History.{View}
 use Rattle.tk_journal.specs.Stops.{asked_level}

@@ -31,7 +31,8 @@ use Rattle.tk_journal.specs.History.{run_of, task_run_of, pod_of, facts_of, outc
 use Rattle.tk_journal.specs.Stops.{asked_stop, IsReached, HasPassed}
 use Rattle.tk_journal.specs.RunRows.{BadChild, IsClosingOf, AreChildrenClosed}
 use Rattle.tk_journal.specs.TaskRunRows.{IsOpenAttempt, NoneOpen}
-use Rattle.tk_verdict.specs.Facts.{level_of, is_failure}
+use Rattle.tk_types.specs.Behaviour.{level_of}
+use Rattle.tk_verdict.specs.Facts.{is_failure}
 use Rattle.tk_bind.specs.Fits.{fits}
 use Rattle.tk_types.specs.Limits.{most_retries, most_steps}
 use Rattle.tk_journal.specs.Sound.{IsSoundSpec, HasSteps, ReadsSteps}

@@ -16,7 +16,8 @@ use Rattle.tk_journal.specs.declared.act.Closing.{Closing}
 use Rattle.tk_journal.specs.declared.object.RunState.{RunState}
 use Rattle.tk_journal.specs.declared.object.Scheduled.{Scheduled}
 use Rattle.tk_journal.specs.declared.object.TaskRunState.{TaskRunState}
-use Rattle.tk_verdict.specs.Facts.{level_of, is_good}
+use Rattle.tk_types.specs.Behaviour.{level_of}
+use Rattle.tk_verdict.specs.Facts.{is_good}
 use Rattle.tk_verdict.specs.Gives.{label_of}
 use Rattle.tk_verdict.specs.Labels.{labels_of, ready_bindings}
 use Rattle.tk_verdict.specs.Condition.{condition_of, results_of}

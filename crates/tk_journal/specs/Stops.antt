@@ -4,7 +4,7 @@ use Rattle.tk_types.specs.declared.run.RunSpec.{RunSpec}
 use Rattle.tk_types.specs.declared.run.Stop.{Stop}
 use Rattle.tk_types.specs.declared.object.Asked.{Asked}
 use Rattle.tk_journal.specs.declared.object.RunState.{RunState}
-use Rattle.tk_verdict.specs.Facts.{level_of}
+use Rattle.tk_types.specs.Behaviour.{level_of}
 use Rattle.tk_journal.specs.Effects.{is_final}
 use Rattle.tk_types.specs.declared.run.Stop.TheVariants as stops
 use Rattle.tk_types.specs.declared.object.Asked.TheVariants as asks

@@ -51,7 +51,7 @@ fn is_good(run: &Facts, kids: &Kids, labels: &[Verdict], place: u32) -> bool
     requires { length run.now.spec.tasks + length run.now.spec.finally < 2 ^ 63 }
     ensures { result ≡ is_good_parent (of_run run.now kids.now) (place, label_of_place labels.now place) }
 {
-    is_good_at(run, kids, place) || is_skipped_by_when(label_at(labels, place))
+    is_good_at(run, kids, place) || is_skipped_by_when(label_at(labels, place as usize))
 }
 
 /// Whether all parents are good, or skipped by their own guards.

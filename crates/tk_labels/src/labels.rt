@@ -124,7 +124,7 @@ impl Labels {
     pub fn verdict(&self, task: u32) -> Verdict
         ensures { result ≡ label_of self.now task }
     {
-        label_at(self.labels.as_slice(), task)
+        label_at(self.labels.as_slice(), task as usize)
     }
 
     /// The first place whose task is Ready. It takes no memory.

@@ -81,7 +81,7 @@ fn walked(
         return walk(alloc, run, kids, parents, sequence, was, task);
     }
     let above = parents[place].as_slice();
-    let before = label_at(was, task);
+    let before = label_at(was, place);
     let told = again(alloc, run, kids, was, above, before, task, task)?;
     if told.moved {
         return walk(alloc, run, kids, parents, sequence, was, task);

@@ -139,7 +139,7 @@ pub(crate) fn walk(
             labels.as_slice(),
             moved.as_slice(),
             above,
-            label_at(was, next.place),
+            label_at(was, place),
             next.place,
             task,
         )?;

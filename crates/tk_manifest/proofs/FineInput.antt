@@ -18,11 +18,13 @@ use Rattle.tk_manifest.specs.declared.item.Heading.{Heading}
 use Rattle.tk_manifest.specs.declared.kinds.KindSet.{KindSet}
 use Rattle.tk_manifest.specs.declared.kinds.ObjectKind.{ObjectKind}
 use Rattle.tk_manifest.specs.declared.kinds.ObjectKind.TheVariants.{Task, TaskRun, Pipeline, PipelineRun, Outcomes, Scenario}
-use Rattle.tk_manifest.specs.Input.{body, is_list, json_fault, json_of, list, list_items, list_keys, reading_fault, whole}
+use Rattle.tk_types.specs.Json.{json_of}
+use Rattle.tk_manifest.specs.Input.{body, is_list, json_fault, list, list_items, list_keys, reading_fault, whole}
 use Rattle.tk_manifest.specs.Item.{accepted, has_version, headed, heading, heading_of, is_named, item, kind_stands, kind_text, kind_told, metadata, metadata_fields, object, object_keys, object_metadata, object_spec, version_stands, version_text}
 use Rattle.tk_manifest.specs.Kind.{spec, version_of}
 use Rattle.tk_manifest.specs.Laws.{IsReadingFault}
-use Rattle.tk_manifest.specs.Outcomes.{child, child_back, child_front, child_keys, first_low, fits_outcome, level_of, misplaced, outcome_words, outcomes, outcomes_fields, outcomes_keys, rising_stops, stop_above, stop_of}
+use Rattle.tk_types.specs.Behaviour.{level_of}
+use Rattle.tk_manifest.specs.Outcomes.{child, child_back, child_front, child_keys, first_low, fits_outcome, misplaced, outcome_words, outcomes, outcomes_fields, outcomes_keys, rising_stops, stop_above, stop_of}
 use Rattle.tk_manifest.proofs.Fine.{Fine, OnlyFine, fine-if, fine-or, fine-two, only-each, only-each_member, only-field, only-no_array, only-no_object, only-number_below, only-number_that, only-object_by, only-one_of, only-text, only-text_that, only-used_fields}
 use Rattle.tk_manifest.proofs.FineSpecs.{only-named, only-pipeline_spec, only-run_spec, only-task_run_spec, only-task_spec, only-value}
 

@@ -3,4 +3,3 @@ pub mod Fine
 pub mod FineInput
 pub mod FineSpecs
 pub mod InOrder
-pub mod Texts

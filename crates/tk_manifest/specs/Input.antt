@@ -1,11 +1,11 @@
 -- The objects of an input, or the first fault of reading.
 use Rattle.std.specs.Prelude.{ℕ, suc, Bool, nat_lt, if◌then◌else◌, List, [], ◌∷◌, length, Option, Some, None, codes, bytes_eq}
 use Rattle.std.specs.Option.{option_map_or}
-use Rattle.std.specs.Str.{is_utf8}
 use Rattle.serde_json.specs.Data.{Data}
-use Rattle.serde_json.specs.Read.{read}
 use Rattle.tk_types.specs.declared.object.Item.{Item}
 use Rattle.tk_types.specs.Fault.{bad_json, too_long}
+use Rattle.tk_types.specs.Json.{json_of}
+use Rattle.tk_types.specs.Limits.{longest_input}
 use Rattle.tk_types.specs.Place.{Place, root, ◌▸◌, ◌#◌}
 use Rattle.tk_types.specs.First.{Finding, first_of, refused_if}
 use Rattle.tk_fields.specs.Check.{Check, each}
@@ -50,17 +50,10 @@ whole kinds place d = first_of (heading place d ∷ body kinds (heading_of d) pl
 unfoldable pub whole_of : KindSet → Data → List Item
 whole_of kinds d = body_of kinds (heading_of d) root d
 
--- the JSON value that the bytes are, if they are a text
-abbrev pub json_of : List ℕ → Option Data
-json_of bytes = if is_utf8 bytes then read bytes else None
-
 -- what is wrong with what the bytes are as JSON
 abbrev pub json_fault : KindSet → Option Data → Finding
 json_fault kinds None = Some bad_json
 json_fault kinds (Some d) = whole kinds root d
-
-abbrev pub longest_input : ℕ
-longest_input = 8388608
 
 -- the first fault of reading the bytes, and the objects where there is none
 abbrev pub reading_fault : KindSet → List ℕ → Finding

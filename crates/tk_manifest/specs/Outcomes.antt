@@ -7,9 +7,10 @@ use Rattle.tk_types.specs.declared.value.Value.{Value}
 use Rattle.tk_types.specs.declared.run.Outcome.{Outcome}
 use Rattle.tk_types.specs.declared.run.Outcome.TheVariants.{Succeeded, Failed, TimedOut, Cancelled, Lost}
 use Rattle.tk_types.specs.declared.run.Stop.{Stop}
-use Rattle.tk_types.specs.declared.run.Stop.TheVariants.{Failure, StoppedRunFinally, CancelledRunFinally, TasksTimeout, FinallyTimeout, Cancelled as CancelledStop, PipelineTimeout}
+use Rattle.tk_types.specs.declared.run.Stop.TheVariants.{Failure}
 use Rattle.tk_types.specs.declared.object.OutcomesChild.{OutcomesChild}
 use Rattle.tk_types.specs.declared.object.OutcomesSpec.{OutcomesSpec}
+use Rattle.tk_types.specs.Behaviour.{level_of, stop_named}
 use Rattle.tk_types.specs.Fault.{bad_choice}
 use Rattle.tk_types.specs.Place.{Place, ◌▸◌, ◌#◌}
 use Rattle.tk_types.specs.First.{Finding, first_of, refused_if}
@@ -19,27 +20,6 @@ use Rattle.tk_fields.specs.Shape.{object_by, optional, required, used_fields}
 use Rattle.tk_manifest.specs.declared.outcomes.OutcomeWord.{OutcomeWord}
 use Rattle.tk_manifest.specs.declared.outcomes.OutcomeWord.TheVariants.{Succeeded as SucceededWord, Failed as FailedWord, TimedOut as TimedOutWord, Cancelled as CancelledWord, Lost as LostWord, Running as RunningWord}
 use Rattle.tk_manifest.specs.Parameter.{rows, value, value_of}
-
--- the stops by their names
-abbrev pub stop_named : List ℕ → Option Stop
-stop_named name =
-    if bytes_eq name (codes "Failure") then Some Failure
-    else if bytes_eq name (codes "StoppedRunFinally") then Some StoppedRunFinally
-    else if bytes_eq name (codes "CancelledRunFinally") then Some CancelledRunFinally
-    else if bytes_eq name (codes "TasksTimeout") then Some TasksTimeout
-    else if bytes_eq name (codes "FinallyTimeout") then Some FinallyTimeout
-    else if bytes_eq name (codes "Cancelled") then Some CancelledStop
-    else if bytes_eq name (codes "PipelineTimeout") then Some PipelineTimeout
-    else None
-
-abbrev pub level_of : Stop → ℕ
-level_of Failure = 1
-level_of StoppedRunFinally = 1
-level_of CancelledRunFinally = 2
-level_of TasksTimeout = 2
-level_of FinallyTimeout = 3
-level_of CancelledStop = 4
-level_of PipelineTimeout = 4
 
 -- a stop whose level is above the one before
 abbrev pub is_above : ℕ → Option Stop → Bool

@@ -1,14 +1,12 @@
 ghost use Rattle.std.specs.Prelude.{◌≡◌, false, length, nat_lt, IfOk, option_map};
 ghost use Rattle.serde_json.specs.View.{view as read_view};
-ghost use Rattle.tk_manifest.specs.Input.{json_of, longest_input};
+ghost use Rattle.tk_types.specs.Json.{json_of};
+ghost use Rattle.tk_types.specs.Limits.{longest_input};
 
 use serde_json::Value as Json;
 use std::alloc::{AllocError, Global};
 use std::marker::Model;
-use std::str;
-
-/// The greatest number of bytes that an input may have.
-const LONGEST_INPUT: usize = 8_388_608;
+use tk_types::{LONGEST_INPUT, json_of};
 
 /// The bytes of an input with the JSON that they are, which is parsed once. A contract sees the bytes.
 ///
@@ -24,28 +22,14 @@ pub struct Document<'b> {
 impl<'b> Model for Document<'b> {
     ghost use Rattle.std.specs.Prelude.{◌≡◌, ℕ, List, false, nat_lt, length, option_map};
     ghost use Rattle.serde_json.specs.View.{view as read_view};
-    ghost use Rattle.tk_manifest.specs.Input.{json_of, longest_input};
+    ghost use Rattle.tk_types.specs.Json.{json_of};
+    ghost use Rattle.tk_types.specs.Limits.{longest_input};
 
     ghost Value = { List ℕ };
 
     ghost view = { λ document. document.bytes.now };
 
     ghost invariant = { λ document. nat_lt longest_input (length document.bytes.now) ≡ false → option_map (λ v. read_view v) document.json ≡ json_of document.bytes.now };
-}
-
-/// The JSON value that bytes are, if they are a text of JSON.
-fn json(alloc: Global, bytes: &[u8]) -> Result<Option<Json>, AllocError>
-    ensures { IfOk result (λ value. option_map (λ v. read_view v) value ≡ json_of bytes.now) }
-{
-    let text = match str::from_utf8(bytes) {
-        Ok(text) => text,
-        Err(_) => return Ok(None),
-    };
-    match Json::from_str(alloc, text) {
-        Ok(value) => Ok(Some(value)),
-        Err(error) if error.is_memory() => Err(AllocError),
-        Err(_) => Ok(None),
-    }
 }
 
 impl<'b> Document<'b> {
@@ -56,16 +40,9 @@ impl<'b> Document<'b> {
         let json = if LONGEST_INPUT < bytes.len() {
             None
         } else {
-            json(alloc, bytes)?
+            json_of(alloc, bytes)?
         };
         Ok(Document { bytes, json })
-    }
-
-    /// The bytes.
-    pub fn bytes(&self) -> &'b [u8]
-        ensures { result.now ≡ self.now }
-    {
-        self.bytes
     }
 
     /// Whether there are more bytes than an input may have.

@@ -1,10 +1,8 @@
 ghost use Rattle.std.specs.Prelude.{◌≡◌, [], ◌∷◌, codes, map};
 ghost use Rattle.serde_json.specs.View.{view};
-ghost use Rattle.tk_types.specs.Fault.{fault};
 ghost use Rattle.tk_types.specs.Place.{root};
 ghost use Rattle.tk_types.specs.First.{first_in};
 ghost use Rattle.tk_types.specs.Rejected.{Reads};
-ghost use Rattle.tk_types.specs.declared.fault.Detail.TheVariants.{Nothing};
 ghost use Rattle.tk_manifest.specs.Item.{headed, headed_at, item};
 ghost use Rattle.tk_manifest.specs.Input.{body, body_of, items_from, list, list_items, list_items_of, list_keys, objects_of, reading_fault, whole, whole_of};
 
@@ -13,8 +11,8 @@ use crate::item::{Heading, check_version, read_headed, read_heading, read_item};
 use crate::kinds::KindSet;
 use serde_json::Value as Json;
 use std::alloc::Global;
-use tk_fields::{Location, check_object, elements_of, field_table, refusal};
-use tk_types::{Detail, Fault, Item, List, Place, Rejected};
+use tk_fields::{check_object, elements_of, field_table};
+use tk_types::{Fault, Item, List, Location, Rejected, refusal};
 
 /// The objects of a list, in order.
 fn read_items(
@@ -53,11 +51,11 @@ fn read_list_items(
     ensures { Reads (list_items kinds place.now (view value.now)) (list_items_of kinds place.now (view value.now)) result }
 {
     let Some(items) = value.get("items") else {
-        return Err(refusal(alloc, 5, &place.key("items")));
+        return Err(refusal(alloc, Fault::MISSING_FIELD, &place.key("items")));
     };
     match elements_of(items) {
         Some(items) => read_items(alloc, kinds, items, &place.key("items")),
-        None => Err(refusal(alloc, 2, &place.key("items"))),
+        None => Err(refusal(alloc, Fault::WRONG_SHAPE, &place.key("items"))),
     }
 }
 
@@ -121,17 +119,6 @@ fn read_whole(alloc: Global, kinds: KindSet, value: &Json) -> Result<List<Item>,
     Ok(read_body(alloc, kinds, &heading, value, &place)?)
 }
 
-/// A fault of the whole input.
-fn input_fault(alloc: Global, number: u8) -> Fault
-    ensures { result ≡ fault number root Nothing }
-{
-    Fault {
-        number,
-        place: Place::root(alloc),
-        detail: Detail::Nothing,
-    }
-}
-
 /// The objects of an input, or what is wrong with it first. It is `TooLong` above 8,388,608 bytes, before anything is
 /// parsed, and `BadJson` where it is no text of JSON, which is one that nests deeper than 127 too. Then it is one
 /// object, or a List of objects in order. Of an object its version and kind go first, then its keys, then its fields.
@@ -144,10 +131,10 @@ pub fn read_objects(
     ensures { Reads (reading_fault kinds document.now) (objects_of kinds document.now) result }
 {
     if document.is_too_long() {
-        return Err(Rejected::Fault(input_fault(alloc, 22)));
+        return Err(refusal(alloc, Fault::TOO_LONG, &Location::root()));
     }
     match document.json() {
         Some(value) => read_whole(alloc, kinds, value),
-        None => Err(Rejected::Fault(input_fault(alloc, 1))),
+        None => Err(refusal(alloc, Fault::BAD_JSON, &Location::root())),
     }
 }

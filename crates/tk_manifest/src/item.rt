@@ -13,11 +13,10 @@ use crate::parameter::has_field;
 use serde_json::Value as Json;
 use std::alloc::{AllocError, Global};
 use tk_fields::{
-    AnyText, Location, Reader, TextThat, check_object, field_table, object_at, optional, place_at,
-    refusal, required,
+    AnyText, Reader, TextThat, check_object, field_table, object_at, optional, required,
 };
 use tk_names::generated;
-use tk_types::{Item, ItemObject, Rejected, Text};
+use tk_types::{Fault, Item, ItemObject, Location, Rejected, Text, place_at, refusal};
 
 /// How many names a prefix can be given.
 const GENERATED_NAMES: u64 = 60_466_176;
@@ -37,7 +36,7 @@ fn check_field(alloc: Global, value: &Json, place: &Location<'_>, key: &str) -> 
     if has_field(value, key) {
         return Ok(());
     }
-    Err(refusal(alloc, 5, &place.key(key)))
+    Err(refusal(alloc, Fault::MISSING_FIELD, &place.key(key)))
 }
 
 /// Refuses an object without a version.
@@ -107,7 +106,7 @@ pub fn check_version(
     if version == due {
         return Ok(());
     }
-    Err(refusal(alloc, 3, &place.key("apiVersion")))
+    Err(refusal(alloc, Fault::WRONG_VERSION, &place.key("apiVersion")))
 }
 
 /// The kind of an object, if it is accepted and the version is the kind's.
@@ -121,7 +120,7 @@ fn read_kind(
     ensures { Reads (accepted kinds heading.now place.now) (kind_told kinds heading.now.kind) result }
 {
     let Some(kind) = kind_named(kinds, heading.kind.as_str()) else {
-        return Err(refusal(alloc, 4, &place.key("kind")));
+        return Err(refusal(alloc, Fault::WRONG_KIND, &place.key("kind")));
     };
     check_version(alloc, version_of(kind), heading.version.as_str(), place)?;
     Ok(kind)
@@ -152,7 +151,7 @@ impl Reader for MetadataForm {
         match (name, prefix) {
             (Some(name), _) => Ok(Naming::Name(name)),
             (None, Some(prefix)) => Ok(Naming::Prefix(prefix)),
-            (None, None) => Err(refusal(alloc, 5, &place.key("name"))),
+            (None, None) => Err(refusal(alloc, Fault::MISSING_FIELD, &place.key("name"))),
         }
     }
 }
@@ -201,7 +200,7 @@ fn read_spec_field(
 {
     match value.get("spec") {
         Some(spec) => read_spec(alloc, kind, name, spec, &place.key("spec")),
-        None => Err(refusal(alloc, 5, &place.key("spec"))),
+        None => Err(refusal(alloc, Fault::MISSING_FIELD, &place.key("spec"))),
     }
 }
 

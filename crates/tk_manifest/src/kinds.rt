@@ -9,9 +9,9 @@ use crate::run::{read_run, read_task_run};
 use crate::task::TaskSpecForm;
 use serde_json::Value as Json;
 use std::alloc::Global;
-use tk_fields::{Location, Reader};
+use tk_fields::Reader;
 use tk_scenario::read_scenario;
-use tk_types::{ItemObject, Rejected, Text};
+use tk_types::{ItemObject, Location, Rejected, Text};
 
 /// The kinds of objects that an input may have: the four of Tekton, and perhaps one of this program's own.
 #[derive(Clone, Copy, Debug, PartialEq, Eq)]

@@ -2,6 +2,7 @@ ghost use Rattle.std.specs.Prelude.{◌≡◌};
 ghost use Rattle.tk_names.specs.Rules.{is_dns_label as dns_label, is_object_name as object_name, is_name_prefix as name_prefix, is_param_name as param_name, is_task_result_name as task_result_name, is_pipeline_result_name as pipeline_result_name, is_env_name as env_name, is_sub_path as sub_path};
 
 use tk_fields::TextRule;
+use tk_types::Fault;
 
 /// Names of pipeline tasks, steps and workspaces; another text is `BadName`.
 pub struct DnsLabel;
@@ -16,7 +17,7 @@ impl TextRule for DnsLabel {
     }
 
     fn number() -> u8 {
-        8
+        Fault::BAD_NAME
     }
 }
 
@@ -33,7 +34,7 @@ impl TextRule for ObjectName {
     }
 
     fn number() -> u8 {
-        8
+        Fault::BAD_NAME
     }
 }
 
@@ -50,7 +51,7 @@ impl TextRule for NamePrefix {
     }
 
     fn number() -> u8 {
-        8
+        Fault::BAD_NAME
     }
 }
 
@@ -67,7 +68,7 @@ impl TextRule for ParamName {
     }
 
     fn number() -> u8 {
-        8
+        Fault::BAD_NAME
     }
 }
 
@@ -84,7 +85,7 @@ impl TextRule for TaskResultName {
     }
 
     fn number() -> u8 {
-        8
+        Fault::BAD_NAME
     }
 }
 
@@ -101,7 +102,7 @@ impl TextRule for PipelineResultName {
     }
 
     fn number() -> u8 {
-        8
+        Fault::BAD_NAME
     }
 }
 
@@ -118,7 +119,7 @@ impl TextRule for EnvName {
     }
 
     fn number() -> u8 {
-        8
+        Fault::BAD_NAME
     }
 }
 
@@ -135,6 +136,6 @@ impl TextRule for SubPath {
     }
 
     fn number() -> u8 {
-        8
+        Fault::BAD_NAME
     }
 }

@@ -2,44 +2,19 @@ ghost use Rattle.std.specs.Prelude.{◌≡◌, ◌^◌, ◌<◌, codes, map};
 ghost use Rattle.serde_json.specs.View.{view};
 ghost use Rattle.tk_types.specs.Rejected.{Reads};
 ghost use Rattle.tk_fields.specs.Get.{list_of, number_at, text_at};
-ghost use Rattle.tk_manifest.specs.Outcomes.{child, child_back, child_front, child_keys, child_of, exit_of, first_low, level_of as level_of_stop, misplaced, outcome_named, outcome_with, outcome_words, outcomes, outcomes_fields, outcomes_keys, outcomes_of, param_named, results_of, rising_stops, stop_above, stop_named as stop_by_name, stop_of, word_of};
+ghost use Rattle.tk_manifest.specs.Outcomes.{child, child_back, child_front, child_keys, child_of, exit_of, first_low, misplaced, outcome_named, outcome_with, outcome_words, outcomes, outcomes_fields, outcomes_keys, outcomes_of, param_named, results_of, rising_stops, stop_above, stop_of, word_of};
 
 use crate::parameter::{ValueForm, has_field};
 use serde_json::Value as Json;
 use std::alloc::Global;
 use tk_fields::{
-    AnyText, Below8, Below32, Each, EachMember, Entry, Location, OneOf, OrEmpty, Reader, Words,
-    check_object, elements_of, field_table, optional, or_empty, refusal, required,
+    AnyText, Below8, Below32, Each, EachMember, Entry, OneOf, OrEmpty, Reader, Words, check_object,
+    elements_of, field_table, optional, or_empty, required,
 };
-use tk_types::{List, Outcome, OutcomesChild, OutcomesSpec, Param, Rejected, Stop, Text, Value};
-
-/// The stop of a name.
-fn stop_named(name: &str) -> Option<Stop>
-    ensures { result ≡ stop_by_name name.now }
-{
-    match name {
-        "Failure" => Some(Stop::Failure),
-        "StoppedRunFinally" => Some(Stop::StoppedRunFinally),
-        "CancelledRunFinally" => Some(Stop::CancelledRunFinally),
-        "TasksTimeout" => Some(Stop::TasksTimeout),
-        "FinallyTimeout" => Some(Stop::FinallyTimeout),
-        "Cancelled" => Some(Stop::Cancelled),
-        "PipelineTimeout" => Some(Stop::PipelineTimeout),
-        _ => None,
-    }
-}
-
-/// The level of a stop.
-fn level_of(stop: Stop) -> u32
-    ensures { result ≡ level_of_stop stop }
-{
-    match stop {
-        Stop::Failure | Stop::StoppedRunFinally => 1,
-        Stop::CancelledRunFinally | Stop::TasksTimeout => 2,
-        Stop::FinallyTimeout => 3,
-        Stop::Cancelled | Stop::PipelineTimeout => 4,
-    }
-}
+use tk_types::{
+    Fault, List, Location, Outcome, OutcomesChild, OutcomesSpec, Param, Rejected, Stop, Text,
+    Value, refusal,
+};
 
 /// A stop whose level is above another, else `BadChoice`.
 #[tactic(auto, unfolding(crate::specs::Outcomes::stop_above, crate::specs::Outcomes::stop_of))]
@@ -52,11 +27,11 @@ fn read_stop(
     ensures { Reads (stop_above level place.now (view value.now)) (stop_of (view value.now)) result }
 {
     let Some(name) = value.as_str() else {
-        return Err(refusal(alloc, 2, place));
+        return Err(refusal(alloc, Fault::WRONG_SHAPE, place));
     };
-    match stop_named(name) {
-        Some(stop) if level < level_of(stop) => Ok(stop),
-        _ => Err(refusal(alloc, 11, place)),
+    match Stop::named(name) {
+        Some(stop) if level < stop.level() => Ok(stop),
+        _ => Err(refusal(alloc, Fault::BAD_CHOICE, place)),
     }
 }
 
@@ -69,7 +44,7 @@ fn read_stops(alloc: Global, items: &[Json], place: &Location<'_>) -> Result<Lis
     for item in items {
         let index = stops.len() as u64;
         let stop = read_stop(alloc, item, level, &(&*place).at(index))?;
-        level = level_of(stop);
+        level = stop.level();
         stops.push(stop)?;
     }
     Ok(stops)
@@ -89,7 +64,7 @@ impl Reader for StopsForm {
     fn read(alloc: Global, value: &Json, place: &Location<'_>) -> Result<List<Stop>, Rejected> {
         match elements_of(value) {
             Some(items) => read_stops(alloc, items, place),
-            None => Err(refusal(alloc, 2, place)),
+            None => Err(refusal(alloc, Fault::WRONG_SHAPE, place)),
         }
     }
 }
@@ -177,9 +152,9 @@ fn check_misplaced(
 {
     match (word, has_exit, has_results) {
         (OutcomeWord::Failed, _, _) => Ok(()),
-        (_, true, _) => Err(refusal(alloc, 11, &place.key("exit"))),
+        (_, true, _) => Err(refusal(alloc, Fault::BAD_CHOICE, &place.key("exit"))),
         (OutcomeWord::Succeeded, false, _) => Ok(()),
-        (_, false, true) => Err(refusal(alloc, 11, &place.key("results"))),
+        (_, false, true) => Err(refusal(alloc, Fault::BAD_CHOICE, &place.key("results"))),
         (_, false, false) => Ok(()),
     }
 }

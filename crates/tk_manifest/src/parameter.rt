@@ -10,10 +10,12 @@ use crate::names::{ParamName, PipelineResultName, TaskResultName};
 use serde_json::Value as Json;
 use std::alloc::Global;
 use tk_fields::{
-    AnyText, Each, EachMember, Entry, Location, OneOf, Reader, TextEntry, TextRule, TextThat,
-    Words, check_object, field_table, optional, or_empty, refusal, required,
+    AnyText, Each, EachMember, Entry, OneOf, Reader, TextEntry, TextRule, TextThat, Words,
+    check_object, field_table, optional, or_empty, required,
 };
-use tk_types::{List, Param, ParamSpec, ParamType, Rejected, ResultSpec, Text, Value};
+use tk_types::{
+    Fault, List, Location, Param, ParamSpec, ParamType, Rejected, ResultSpec, Text, Value, refusal,
+};
 
 /// A value: a string, an array of strings or an object of strings.
 pub struct ValueForm;
@@ -31,7 +33,7 @@ impl Reader for ValueForm {
             Json::String(_) => Ok(Value::Str(AnyText::read(alloc, value, place)?)),
             Json::Array(_) => Ok(Value::Arr(Each::<AnyText>::read(alloc, value, place)?)),
             Json::Object(_) => Ok(Value::Obj(EachMember::<TextEntry>::read(alloc, value, place)?)),
-            _ => Err(refusal(alloc, 2, place)),
+            _ => Err(refusal(alloc, Fault::WRONG_SHAPE, place)),
         }
     }
 }
@@ -236,7 +238,7 @@ fn check_dots(
     ensures { Reads (dotted kind name.now place.now) tt result }
 {
     if is_object(kind) && has_dot(name) {
-        return Err(refusal(alloc, 8, &place.key("name")));
+        return Err(refusal(alloc, Fault::BAD_NAME, &place.key("name")));
     }
     Ok(())
 }

@@ -15,12 +15,13 @@ use crate::workspace::{PipelineSpaceForm, SpaceUseForm};
 use serde_json::Value as Json;
 use std::alloc::Global;
 use tk_fields::{
-    AnyText, Below32, Each, Location, OneOf, OrEmpty, Reader, SomeOf, TextThat, Words,
-    check_object, field_table, just_one, optional, or_empty, refusal, required,
+    AnyText, Below32, Each, OneOf, OrEmpty, Reader, SomeOf, TextThat, Words, check_object,
+    field_table, just_one, optional, or_empty, required,
 };
 use tk_time::read_duration;
 use tk_types::{
-    List, Matrix, Param, PipelineSpec, PipelineTask, Rejected, SpaceUse, TaskSource, Text, When,
+    Fault, List, Location, Matrix, Param, PipelineSpec, PipelineTask, Rejected, SpaceUse,
+    TaskSource, Text, When, refusal,
 };
 
 /// A duration, in milliseconds; a text that is none is `BadDuration`.
@@ -36,11 +37,11 @@ impl Reader for DurationForm {
     #[tactic(auto, unfolding(crate::specs::Pipeline::duration, crate::specs::Pipeline::millis_of))]
     fn read(alloc: Global, value: &Json, place: &Location<'_>) -> Result<u64, Rejected> {
         let Some(text) = value.as_str() else {
-            return Err(refusal(alloc, 2, place));
+            return Err(refusal(alloc, Fault::WRONG_SHAPE, place));
         };
         match read_duration(text) {
             Some(millis) => Ok(millis),
-            None => Err(refusal(alloc, 10, place)),
+            None => Err(refusal(alloc, Fault::BAD_DURATION, place)),
         }
     }
 }
@@ -160,7 +161,7 @@ fn check_combinations(alloc: Global, matrix: &Matrix, place: &Location<'_>) -> R
     ensures { Reads (empty_matrix matrix.now place.now) tt result }
 {
     if matrix.params.is_empty() && matrix.include.is_empty() {
-        return Err(refusal(alloc, 5, place));
+        return Err(refusal(alloc, Fault::MISSING_FIELD, place));
     }
     Ok(())
 }
@@ -278,7 +279,7 @@ fn check_ignored(
     ensures { Reads (ignored_with_retries ignore_failure retries place.now) tt result }
 {
     if ignore_failure && 0 < retries {
-        return Err(refusal(alloc, 11, &place.key("onError")));
+        return Err(refusal(alloc, Fault::BAD_CHOICE, &place.key("onError")));
     }
     Ok(())
 }

@@ -13,11 +13,12 @@ use crate::workspace::BindingForm;
 use serde_json::Value as Json;
 use std::alloc::Global;
 use tk_fields::{
-    AnyText, Below32, Each, Location, OneOf, OrEmpty, Reader, Words, check_object, field_table,
-    just_one, optional, or_empty, required,
+    AnyText, Below32, Each, OneOf, OrEmpty, Reader, Words, check_object, field_table, just_one,
+    optional, or_empty, required,
 };
 use tk_types::{
-    Asked, Given3, List, Param, PipelineSource, Rejected, RunObject, Space, TaskRunObject, Text,
+    Asked, Given3, List, Location, Param, PipelineSource, Rejected, RunObject, Space,
+    TaskRunObject, Text,
 };
 
 /// How long a TaskRun may take where it doesn't say so, in milliseconds.

@@ -11,10 +11,10 @@ use crate::workspace::TaskSpaceForm;
 use serde_json::Value as Json;
 use std::alloc::Global;
 use tk_fields::{
-    AnyText, Each, Location, OneOf, OrEmpty, Reader, SomeOf, TextRule, TextThat, Words,
-    check_object, field_table, optional, or_empty, refusal, required,
+    AnyText, Each, OneOf, OrEmpty, Reader, SomeOf, TextRule, TextThat, Words, check_object,
+    field_table, optional, or_empty, required,
 };
-use tk_types::{List, Pair, Rejected, Step, TaskSource, TaskSpec, Text};
+use tk_types::{Fault, List, Location, Pair, Rejected, Step, TaskSource, TaskSpec, Text, refusal};
 
 /// Refuses what is no object with the keys of a step's variable.
 #[tactic(auto, unfolding(crate::specs::Task::env_keys))]
@@ -94,8 +94,8 @@ fn check_command(
     ensures { Reads (script_or_command has_script command.now place.now) tt result }
 {
     match (has_script, !command.is_empty()) {
-        (true, true) => Err(refusal(alloc, 11, &place.key("script"))),
-        (false, false) => Err(refusal(alloc, 7, place)),
+        (true, true) => Err(refusal(alloc, Fault::BAD_CHOICE, &place.key("script"))),
+        (false, false) => Err(refusal(alloc, Fault::UNSUPPORTED, place)),
         _ => Ok(()),
     }
 }
@@ -235,7 +235,7 @@ impl TextRule for TaskKind {
     }
 
     fn number() -> u8 {
-        7
+        Fault::UNSUPPORTED
     }
 }
 
@@ -252,7 +252,7 @@ impl TextRule for TaskVersion {
     }
 
     fn number() -> u8 {
-        7
+        Fault::UNSUPPORTED
     }
 }
 

@@ -9,10 +9,9 @@ use crate::names::{DnsLabel, ObjectName, SubPath};
 use serde_json::Value as Json;
 use std::alloc::Global;
 use tk_fields::{
-    AnyText, Location, Reader, TextThat, Truth, check_object, field_table, optional, or_empty,
-    refusal, required,
+    AnyText, Reader, TextThat, Truth, check_object, field_table, optional, or_empty, required,
 };
-use tk_types::{Rejected, Space, SpaceSpec, SpaceUse, Text, TryCopy};
+use tk_types::{Fault, Location, Rejected, Space, SpaceSpec, SpaceUse, Text, TryCopy, refusal};
 
 /// The name of a declared workspace, and whether it may be left unbound.
 #[tactic(auto, unfolding(crate::specs::Workspace::space_fields, crate::specs::Workspace::space_spec_of))]
@@ -151,7 +150,7 @@ impl Reader for FolderForm {
     fn read(alloc: Global, value: &Json, place: &Location<'_>) -> Result<(), Rejected> {
         match value {
             Json::Object(_) => Ok(()),
-            _ => Err(refusal(alloc, 2, place)),
+            _ => Err(refusal(alloc, Fault::WRONG_SHAPE, place)),
         }
     }
 }
@@ -199,8 +198,14 @@ fn check_folder_or_claim(alloc: Global, value: &Json, place: &Location<'_>) -> R
     ensures { Reads (folder_or_claim place.now (view value.now)) tt result }
 {
     match (value.get("emptyDir"), value.get("persistentVolumeClaim")) {
-        (None, None) => Err(refusal(alloc, 5, &place.key("emptyDir"))),
-        (Some(_), Some(_)) => { Err(refusal(alloc, 11, &place.key("persistentVolumeClaim"))) }
+        (None, None) => Err(refusal(alloc, Fault::MISSING_FIELD, &place.key("emptyDir"))),
+        (Some(_), Some(_)) => {
+            Err(refusal(
+                alloc,
+                Fault::BAD_CHOICE,
+                &place.key("persistentVolumeClaim"),
+            ))
+        }
         _ => Ok(()),
     }
 }

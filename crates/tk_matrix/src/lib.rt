@@ -11,4 +11,4 @@ mod product;
 mod size;
 
 pub use listing::{all, combination};
-pub use size::{MAX_COMBINATIONS, TooLarge, count};
+pub use size::{TooLarge, count};

@@ -1,11 +1,12 @@
 ghost use Rattle.std.specs.Prelude.{◌≡◌, ◌<◌, ◌≤◌, IfOk};
+ghost use Rattle.tk_types.specs.Limits.{most_combinations};
 ghost use Rattle.tk_matrix.specs.Product.{HasLists};
 ghost use Rattle.tk_matrix.specs.Combinations.{combination_count, combination, combinations};
 
 use crate::choice::own_entry;
 use crate::include::extended;
 use crate::product::chosen;
-use crate::size::{MAX_COMBINATIONS, capped_count, capped_list_count};
+use crate::size::{capped_count, capped_list_count};
 use std::alloc::{AllocError, Global};
 use tk_types::{List, Matrix, Param};
 
@@ -31,7 +32,7 @@ pub fn combination(alloc: Global, matrix: &Matrix, index: u32) -> Result<List<Pa
 /// All combinations of a matrix that has at most 256, in order.
 pub fn all(alloc: Global, matrix: &Matrix) -> Result<List<List<Param>>, AllocError>
     requires lists { HasLists matrix.now }
-    requires fits { combination_count matrix.now ≤ MAX_COMBINATIONS }
+    requires fits { combination_count matrix.now ≤ most_combinations }
     ensures { IfOk result (λ made. made ≡ combinations matrix.now) }
 {
     let mut made = List::new(alloc);

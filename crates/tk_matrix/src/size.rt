@@ -1,14 +1,12 @@
 ghost use Rattle.std.specs.Prelude.{◌≡◌, ◌≤◌, ◌-◌, ◌^◌, ◌↔◌, min, IsOk, IfOk, IfErr};
+ghost use Rattle.tk_types.specs.Limits.{most_combinations};
 ghost use Rattle.tk_matrix.specs.Product.{HasLists};
 ghost use Rattle.tk_matrix.specs.Combinations.{combination_count, list_count};
 
 use crate::choice::count_own;
 use crate::product::count_product;
 use thiserror::Error;
-use tk_types::{Matrix, Param};
-
-/// The most combinations that a matrix may have.
-pub const MAX_COMBINATIONS: u32 = 256;
+use tk_types::{MOST_COMBINATIONS, Matrix, Param};
 
 /// A matrix has more than 256 combinations: `count` of them, or at least that many where it is 2^64 - 1.
 #[derive(Clone, Copy, Debug, PartialEq, Eq, Error)]
@@ -21,12 +19,12 @@ pub struct TooLarge {
 /// Matrix, Concurrency Control).
 pub fn count(matrix: &Matrix) -> Result<u32, TooLarge>
     requires { HasLists matrix.now }
-    ensures fits { IsOk result ↔ (combination_count matrix.now ≤ MAX_COMBINATIONS) }
+    ensures fits { IsOk result ↔ (combination_count matrix.now ≤ most_combinations) }
     ensures ok { IfOk result (λ n. n ≡ combination_count matrix.now) }
     ensures too_large { IfErr result (λ e. e.count ≡ min (combination_count matrix.now) (2 ^ 64 - 1)) }
 {
     let count = capped_count(matrix);
-    if count <= u64::from(MAX_COMBINATIONS) {
+    if count <= u64::from(MOST_COMBINATIONS) {
         Ok(count as u32)
     } else {
         Err(TooLarge { count })

@@ -15,11 +15,13 @@ use Rattle.tk_types.specs.declared.value.ParamType.TheVariants.{Str as string, A
 use Rattle.tk_types.specs.declared.value.ResultSpec.{ResultSpec}
 use Rattle.tk_types.specs.declared.value.Value.{Value}
 use Rattle.tk_types.specs.declared.value.Value.TheVariants.{Str, Arr, Obj}
+use Rattle.tk_types.specs.Limits.{most_result_bytes}
 use Rattle.tk_results.specs.declared.files.Fetched.{Fetched}
 use Rattle.tk_results.specs.declared.refusal.GatherError.{GatherError}
 use Rattle.tk_results.specs.declared.refusal.GatherError.TheVariants.{Bad}
-use Rattle.tk_results.specs.Gathered.{gathered, emitted, file_of, param_of, total_of, most_bytes}
-use Rattle.tk_results.specs.Read.{value_of, text_of, list_of, json_of, object_of}
+use Rattle.tk_results.specs.Gathered.{gathered, emitted, file_of, param_of, total_of}
+use Rattle.tk_types.specs.Json.{text_of, json_of}
+use Rattle.tk_results.specs.Read.{value_of, list_of, object_of}
 use Rattle.tk_journal.specs.PodRows.{AreResults}
 use Rattle.tk_outcome.specs.Walked.{once_each, gathering}
 use Rattle.tk_outcome.proofs.Firsts.{Differ, once_differ, once_within}
@@ -113,7 +115,7 @@ emitted_of found (spec ∷ specs) results is = by_file (file_of found spec.name)
     by_file (Some bytes) all before = by_value bytes (value_of spec.kind bytes) refl all before
 
 gathered_of : (specs : List ResultSpec) (found : List Fetched) (results : List Param) → gathering specs found ≡ Some results → AreOf specs results
-gathered_of specs found results is = elim (cases_Bool (nat_lt most_bytes (total_of specs found))) [
+gathered_of specs found results is = elim (cases_Bool (nat_lt most_result_bytes (total_of specs found))) [
   | inl large ↦ (let bad : None ≡ Some results = rw large at is in cc)
   | inr small ↦ (let all : result_ok (all_ok (filter_map (emitted found) specs)) ≡ Some results = rw small at is in emitted_of found specs results (ok_of (all_ok (filter_map (emitted found) specs)) all))
 ]

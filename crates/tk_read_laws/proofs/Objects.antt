@@ -18,7 +18,8 @@ use Rattle.tk_manifest.specs.declared.item.Naming.TheVariants.{Name, Prefix}
 use Rattle.tk_manifest.specs.declared.kinds.KindSet.{KindSet}
 use Rattle.tk_manifest.specs.declared.kinds.ObjectKind.{ObjectKind}
 use Rattle.tk_manifest.specs.declared.kinds.ObjectKind.TheVariants.{Task, TaskRun, Pipeline, PipelineRun, Outcomes, Scenario}
-use Rattle.tk_manifest.specs.Input.{body, body_of, is_list, items_from, json_fault, json_of, list, list_items, list_items_of, objects_of, reading_fault, whole, whole_of}
+use Rattle.tk_types.specs.Json.{json_of}
+use Rattle.tk_manifest.specs.Input.{body, body_of, is_list, items_from, json_fault, list, list_items, list_items_of, objects_of, reading_fault, whole, whole_of}
 use Rattle.tk_manifest.specs.Item.{headed, headed_at, heading_of, is_named, item, item_at, kind_told, metadata, metadata_fields, name_by, naming_of, object, object_at, object_metadata, object_spec}
 use Rattle.tk_manifest.specs.Kind.{object_made, spec}
 use Rattle.tk_manifest.specs.Parameter.{named}

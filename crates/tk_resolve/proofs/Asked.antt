@@ -21,7 +21,8 @@ use Rattle.tk_bind.specs.Substitute.{reference_value}
 use Rattle.tk_resolve.specs.declared.due.Due.{Due}
 use Rattle.tk_resolve.specs.declared.due.Due.TheVariants.{OneText, Element, AnyValue}
 use Rattle.tk_resolve.specs.Asks.{Adds, AsksTheSame, IsAlone, IsAsked, HoldsStricter, ReadsDue}
-use Rattle.tk_resolve.specs.Due.{DueText, is_as_strict, is_due, seen, type_of}
+use Rattle.tk_types.specs.Behaviour.{type_of}
+use Rattle.tk_resolve.specs.Due.{DueText, is_as_strict, is_due, seen}
 use Rattle.tk_resolve.specs.Misuse.{any_lacks, any_use, is_judged, lacks, passes}
 
 or_true : (b : Bool) → (b || true) ≡ true
@@ -155,7 +156,7 @@ no_true : {A : Type 0} → false ≡ true → A
 no_true e = cc
 
 -- what isn't due where something is due isn't where something as strict is
-undue : (due other : Due) (kind : ParamType) (judged : Bool) → is_as_strict due other ≡ true → (judged && not (is_due other kind)) ≡ true → (judged && not (is_due due kind)) ≡ true
+pub undue : (due other : Due) (kind : ParamType) (judged : Bool) → is_as_strict due other ≡ true → (judged && not (is_due other kind)) ≡ true → (judged && not (is_due due kind)) ≡ true
 undue due other string judged strict lacking = lacking
 undue OneText OneText array judged strict lacking = lacking
 undue OneText Element array judged strict lacking = no_true (and_second judged false lacking)

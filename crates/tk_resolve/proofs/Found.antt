@@ -7,7 +7,7 @@ use Rattle.std.proofs.lemmas.List.{map-append}
 use Rattle.std.proofs.lemmas.List.Elements.{filter_map-append}
 use Rattle.std.proofs.lemmas.List.Folds.{find-append}
 use Rattle.tk_types.specs.declared.object.Item.{Item}
-use Rattle.tk_bind.proofs.FirstFound.{bytes_eq-swap}
+use Rattle.tk_types.proofs.FirstFound.{bytes_eq-swap}
 use Rattle.tk_resolve.specs.Lookup.{named, value_if}
 
 -- the first value that is there, of two

@@ -1,5 +1,6 @@
 pub mod Asked
 pub mod BodiesRead
+pub mod ByShapes
 pub mod EarlyParams
 pub mod Examples
 pub mod Found
@@ -8,7 +9,6 @@ pub mod Gathered
 pub mod Judged
 pub mod LookedUp
 pub mod Misused
-pub mod ParamsAlone
 pub mod PassedOver
 pub mod Readings
 pub mod ResolvedRuns

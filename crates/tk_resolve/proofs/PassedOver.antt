@@ -1,5 +1,5 @@
 -- Texts of which no reference passes a test.
-use Rattle.std.proofs.Common.{◌≡◌, ℕ, Bool, false, List, [], ◌∷◌, None, refl, ap, filter_map}
+use Rattle.std.proofs.Common.{◌≡◌, ◌∙◌, ◌||◌, ℕ, Bool, false, List, [], ◌∷◌, None, refl, ap, filter_map}
 use Rattle.std.specs.Prelude.{bytes_eq, codes}
 use Rattle.std.specs.List.{list_any}
 use Rattle.tk_types.specs.declared.task.PipelineTask.{PipelineTask}
@@ -20,23 +20,22 @@ use Rattle.tk_resolve.specs.declared.due.Due.{Due}
 use Rattle.tk_resolve.specs.Misuse.{is_misused, misuses, passes}
 use Rattle.tk_resolve.specs.Settled.{is_to_later}
 
--- where none of the references has what the test asks for, none of the pieces passes it
-none_passes : (has test : Reference → Bool) (pieces : List Piece) → ((r : Reference) → has r ≡ false → test r ≡ false)
-    → list_any has (filter_map referenced pieces) ≡ false → list_any (passes test) pieces ≡ false
-none_passes has test [] asks none = refl
-none_passes has test (Plain text ∷ pieces) asks none = none_passes has test pieces asks none
-none_passes has test (Ref r ∷ pieces) asks none =
-    let rest = none_passes has test pieces asks (or_second (has r) (list_any has (filter_map referenced pieces)) none) in
-    rw (asks r (or_first (has r) (list_any has (filter_map referenced pieces)) none)) rest
+-- some piece passes a test just where some reference does
+pub passes_references : (test : Reference → Bool) (pieces : List Piece) → list_any (passes test) pieces ≡ list_any test (filter_map referenced pieces)
+passes_references test [] = refl
+passes_references test (Plain text ∷ pieces) = passes_references test pieces
+passes_references test (Ref r ∷ pieces) = ap (λ b. test r || b) (passes_references test pieces)
 
--- of a text without a reference
+-- no piece of a text without a reference
 pub none_passes_without : (test : Reference → Bool) (text : List ℕ) → references_of text ≡ [] → list_any (passes test) (pieces_of text) ≡ false
-none_passes_without test text none = none_passes test test (pieces_of text) (λ r no. no) (ap (list_any test) none)
+none_passes_without test text none = passes_references test (pieces_of text) ∙ ap (list_any test) none
 
--- of a text that names no task, where the test asks for one
-none_passes_untasked : (test : Reference → Bool) (text : List ℕ) → ((r : Reference) → names_task r ≡ false → test r ≡ false)
-    → list_any names_task (references_of text) ≡ false → list_any (passes test) (pieces_of text) ≡ false
-none_passes_untasked test text asks none = none_passes names_task test (pieces_of text) asks none
+-- where none of the references has what the test asks for, none passes it
+none_asked : (has test : Reference → Bool) (refs : List Reference) → ((r : Reference) → has r ≡ false → test r ≡ false) → list_any has refs ≡ false → list_any test refs ≡ false
+none_asked has test [] asks none = refl
+none_asked has test (r ∷ refs) asks none =
+    let rest = none_asked has test refs asks (or_second (has r) (list_any has refs) none) in
+    rw (asks r (or_first (has r) (list_any has refs) none)) rest
 
 -- Of the questions that ask for a task.
 
@@ -61,10 +60,9 @@ no_status (Name head ∷ Name task ∷ Name last ∷ []) none = rw (or_first (by
 no_status (Name head ∷ Name task ∷ Name last ∷ part ∷ parts) none = refl
 
 -- so of a text that names no task no reference is to what is known later, or misuses a result
-pub none_to_later : (due : Due) (text : List ℕ) → list_any names_task (references_of text) ≡ false → list_any (passes (is_to_later due)) (pieces_of text) ≡ false
+pub none_to_later : (due : Due) (text : List ℕ) → list_any names_task (references_of text) ≡ false → list_any (is_to_later due) (references_of text) ≡ false
 none_to_later due text none =
-    none_passes_untasked (is_to_later due) text (λ r no. rw (no_result_is (target_of r.parts) (no_result r.parts no)) (no_status r.parts no)) none
+    none_asked names_task (is_to_later due) (references_of text) (λ r no. rw (no_result_is (target_of r.parts) (no_result r.parts no)) (no_status r.parts no)) none
 
-pub none_misused : (tasks : List (PipelineTask × TaskBody)) (due : Due) (text : List ℕ)
-    → list_any names_task (references_of text) ≡ false → list_any (passes (misuses tasks due)) (pieces_of text) ≡ false
-none_misused tasks due text none = none_passes_untasked (misuses tasks due) text (λ r no. no_result_misused tasks due (target_of r.parts) (no_result r.parts no)) none
+pub none_misused : (tasks : List (PipelineTask × TaskBody)) (due : Due) (text : List ℕ) → list_any names_task (references_of text) ≡ false → list_any (misuses tasks due) (references_of text) ≡ false
+none_misused tasks due text none = none_asked names_task (misuses tasks due) (references_of text) (λ r no. no_result_misused tasks due (target_of r.parts) (no_result r.parts no)) none

@@ -4,7 +4,7 @@ use denote.Ref.{Bor}
 use Rattle.tk_types.specs.declared.value.Pair.{Pair}
 use Rattle.tk_types.specs.declared.value.Param.{Param}
 use Rattle.tk_types.specs.declared.value.ParamType.{ParamType}
-use Rattle.tk_types.specs.declared.value.ParamType.TheVariants.{Str as string, Arr as array, Obj as object}
+use Rattle.tk_types.specs.declared.value.ParamType.TheVariants.{Str as string, Arr as array}
 use Rattle.tk_types.specs.declared.value.Value.{Value}
 use Rattle.tk_types.specs.declared.value.Value.TheVariants.{Str, Arr, Obj}
 use Rattle.tk_types.specs.declared.task.Matrix.{Matrix}
@@ -59,12 +59,6 @@ abbrev pub step_dues : Step → List DueText
 step_dues step = element_dues step ++ single_dues step
 
 -- What may stand there.
-
--- the type of a value
-abbrev pub type_of : Value → ParamType
-type_of (Str text) = string
-type_of (Arr texts) = array
-type_of (Obj pairs) = object
 
 -- a value of this type, taken by a reference, is what is due
 abbrev pub is_due : Due → ParamType → Bool

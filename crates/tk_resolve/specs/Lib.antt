@@ -6,6 +6,7 @@ pub mod Misuse
 pub mod Reasons
 pub mod Run
 pub mod Settled
+pub mod Shapes
 pub mod Spaces
 pub mod TaskRun
 pub mod Timeouts

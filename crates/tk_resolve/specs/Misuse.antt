@@ -13,10 +13,12 @@ use Rattle.tk_vars.specs.declared.piece.Piece.{Piece}
 use Rattle.tk_vars.specs.Reading.{ends_with_star, pieces_of}
 use Rattle.tk_vars.specs.Target.{Target, param, result, target_of, referenced}
 use Rattle.tk_bind.specs.declared.env.Env.{Env}
-use Rattle.tk_bind.specs.Scope.{is_in, suits}
+use Rattle.tk_types.specs.Names.{is_in}
+use Rattle.tk_bind.specs.Scope.{suits}
 use Rattle.tk_bind.specs.Substitute.{reference_value}
 use Rattle.tk_resolve.specs.declared.due.Due.{Due}
-use Rattle.tk_resolve.specs.Due.{DueText, type_of, is_due}
+use Rattle.tk_types.specs.Behaviour.{type_of}
+use Rattle.tk_resolve.specs.Due.{DueText, is_due}
 
 -- the piece is a reference that passes the test
 abbrev pub passes : (Reference → Bool) → Piece → Bool

@@ -2,6 +2,7 @@
 use Rattle.std.specs.Prelude.{ℕ, Bool, false, not, ◌||◌, nat_le, if◌then◌else◌, List, [], map, filter, flat_map, ◌++◌, Option, Ok, Err}
 use Rattle.std.specs.List.{list_all}
 use Rattle.std.specs.Option.{option_map_or}
+use Rattle.tk_types.specs.Limits.{most_combinations}
 use Rattle.tk_types.specs.declared.value.Param.{Param}
 use Rattle.tk_types.specs.declared.value.ParamSpec.{ParamSpec}
 use Rattle.tk_types.specs.declared.task.Matrix.{Matrix}
@@ -12,7 +13,8 @@ use Rattle.tk_bind.specs.declared.env.Env.{Env}
 use Rattle.tk_bind.specs.Bind.{bound_params}
 use Rattle.tk_bind.specs.Fits.{step_env}
 use Rattle.tk_bind.specs.Params.{params_in, matrix_in}
-use Rattle.tk_bind.specs.Scope.{is_in, is_status}
+use Rattle.tk_types.specs.Names.{is_in}
+use Rattle.tk_bind.specs.Scope.{is_status}
 use Rattle.tk_matrix.specs.Task.{task_combination_count, task_combinations}
 use Rattle.tk_early.specs.Settled.{is_settled, is_to_result}
 use Rattle.tk_resolve.specs.declared.due.Due.{Due}
@@ -36,11 +38,11 @@ late_names task = map (λ (p : Param). p.name) (filter is_late task.params)
 
 -- how many combinations are judged; more than 256 are refused elsewhere, and not judged
 abbrev pub judged_count : Option Matrix → ℕ
-judged_count matrix = if nat_le (task_combination_count matrix) 256 then task_combination_count matrix else 0
+judged_count matrix = if nat_le (task_combination_count matrix) most_combinations then task_combination_count matrix else 0
 
 -- the combinations of early parameters and a matrix that are judged
 abbrev pub judged_combinations : List Param → Option Matrix → List (List Param)
-judged_combinations early matrix = if nat_le (task_combination_count matrix) 256 then task_combinations early matrix else []
+judged_combinations early matrix = if nat_le (task_combination_count matrix) most_combinations then task_combinations early matrix else []
 
 -- the combinations of a settled task that are known, without its late parameters
 abbrev pub known_combinations : Env → PipelineTask → List (List Param)

@@ -13,14 +13,14 @@ use crate::beside::all_fit;
 use crate::due::{result_dues, task_dues};
 use crate::lookup::Earlier;
 use crate::misuse::Declarer;
-use crate::questions::any_lacks;
+use crate::questions::any_lacks_value;
 use crate::spec::pipeline_name;
 use crate::values::has_missing;
 use std::alloc::{AllocError, Global};
 use std::marker::Model;
-use tk_bind::{EnvIndex, FirstNamed, Lookup};
+use tk_bind::{EnvIndex, Lookup};
 use tk_early::RunWords;
-use tk_types::{Pair, Param, PipelineSpec, PipelineTask, RunObject};
+use tk_types::{FirstNamed, Pair, Param, PipelineSpec, PipelineTask, RunObject};
 
 /// A run with its Pipeline, whose values are found by their names. A contract sees the run and the Pipeline.
 #[derive(Drop)]
@@ -52,7 +52,7 @@ fn texts_lack(alloc: Global, lookup: &Lookup, task: &PipelineTask) -> Result<boo
 {
     let spared = FirstNamed::new(alloc, &[])?;
     let texts = task_dues(alloc, task)?;
-    any_lacks(alloc, lookup, &spared, texts.as_slice())
+    any_lacks_value(alloc, lookup, &spared, texts.as_slice())
 }
 
 impl<'a> Admission<'a> {
@@ -130,7 +130,7 @@ impl<'a> Admission<'a> {
         let lookup = self.lookup(&[]);
         let spared = FirstNamed::new(alloc, &[])?;
         let texts = result_dues(alloc, self.pipeline.results.as_slice())?;
-        any_lacks(alloc, &lookup, &spared, texts.as_slice())
+        any_lacks_value(alloc, &lookup, &spared, texts.as_slice())
     }
 
     /// Whether a needed parameter is missing. The only error is want of memory.

@@ -11,10 +11,9 @@ use crate::spaces::handed_spaces;
 use crate::values::{defaults, outer_values};
 use std::alloc::{AllocError, Global};
 use std::marker::Model;
-use tk_bind::FirstNamed;
 use tk_types::{
-    List, Param, PipelineSpec, PipelineTask, RunObject, Space, TaskBody, TaskSource, TaskSpec,
-    Text, TryCopy,
+    FirstNamed, List, Param, PipelineSpec, PipelineTask, RunObject, Space, TaskBody, TaskSource,
+    TaskSpec, Text, TryCopy,
 };
 
 /// A run and its Pipeline, of which the run's bindings are found by their names, with what each inlined spec sees. A

@@ -10,8 +10,8 @@ use crate::due::Due;
 use crate::uses::{Question, any_use};
 use std::alloc::{AllocError, Global};
 use std::marker::Model;
-use tk_bind::{FirstNamed, Named, Target, key_part, suits, target_of};
-use tk_types::{ParamType, PipelineSpec, PipelineTask, ResultSpec, TaskBody};
+use tk_bind::{Target, key_part, suits, target_of};
+use tk_types::{FirstNamed, Named, ParamType, PipelineSpec, PipelineTask, ResultSpec, TaskBody};
 use tk_vars::{Part, Reference, names_no_task};
 
 /// A task with its body, whose results are found by their names. A contract sees the task and the body.

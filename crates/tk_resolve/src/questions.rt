@@ -1,50 +1,34 @@
 ghost use Rattle.std.specs.Prelude.{◌≡◌, All, IfOk};
 ghost use Rattle.tk_vars.specs.Reading.{HasReading};
-ghost use Rattle.tk_bind.specs.Found.{found_value, meant};
-ghost use Rattle.tk_bind.specs.Scope.{is_in};
-ghost use Rattle.tk_resolve.specs.Due.{seen, type_of};
-ghost use Rattle.tk_resolve.specs.Misuse.{any_lacks, is_judged, lacks, takes_due};
+ghost use Rattle.tk_bind.specs.Found.{meant};
+ghost use Rattle.tk_types.specs.Names.{is_in};
+ghost use Rattle.tk_resolve.specs.Due.{seen};
+ghost use Rattle.tk_resolve.specs.Misuse.{any_lacks as any_lacks_value, is_judged};
 ghost use Rattle.tk_resolve.specs.Settled.{is_to_later};
+ghost use Rattle.tk_resolve.specs.Shapes.{any_lacks, lacks, takes_due};
 
 use crate::due::Due;
 use crate::uses::{Question, any_use};
 use std::alloc::{AllocError, Global};
-use tk_bind::{FirstNamed, Found, Lookup, Target, is_status, key_part, target_of};
+use tk_bind::{Lookup, Target, is_status, key_part, target_of};
 use tk_early::ToResult;
-use tk_types::{ParamType, Text};
+use tk_shape::Shapes;
+use tk_types::{FirstNamed, Text};
 use tk_vars::{Reference, ReferenceTest, is_plain, names_no_task};
 
-/// The type of a value that was found.
-fn type_of(found: Found<'_>) -> ParamType
-    ensures { result ≡ type_of (found_value found.entry) }
-{
-    match found {
-        Found::Text(_) => ParamType::Str,
-        Found::Texts(_) => ParamType::Arr,
-        Found::Pairs(_) => ParamType::Obj,
-    }
-}
-
 /// Whether a reference takes a value that is due.
-fn takes_due(
+fn takes_due<S: Shapes>(
     alloc: Global,
-    lookup: &Lookup,
+    shapes: &S,
     due: Due,
     reference: &Reference<'_>,
 ) -> Result<bool, AllocError>
-    ensures { IfOk result (λ takes. takes ≡ takes_due lookup.now due reference.now) }
+    ensures { IfOk result (λ takes. takes ≡ takes_due (S.env shapes.now) due reference.now) }
 {
-    match lookup.reference_value(alloc, reference)? {
-        Some(found) => Ok(due.takes(type_of(found))),
+    match shapes.kind_taken(alloc, reference)? {
+        Some(kind) => Ok(due.takes(kind)),
         None => Ok(false),
     }
-}
-
-/// Whether the name is one of these.
-pub(crate) fn is_among(names: &FirstNamed<'_, Text>, name: &str) -> bool
-    ensures { result ≡ is_in names.now name.now }
-{
-    names.get(name).is_some()
 }
 
 /// Whether this is a parameter, none of those that are spared.
@@ -58,7 +42,7 @@ fn is_judged(
     match target {
         Target::Param { name, .. } => {
             let name = key_part(alloc, name)?;
-            Ok(!is_among(spared, name.as_str()))
+            Ok(!spared.contains(name.as_str()))
         }
         _ => Ok(false),
     }
@@ -66,13 +50,13 @@ fn is_judged(
 
 /// Whether a reference is to a parameter, none of those that are spared, and takes no value that is due.
 #[derive(Drop)]
-pub(crate) struct Lacks<'l, 'i, 'p, 'r, 'w, 'o, 'n, 's> {
-    pub lookup: &'l Lookup<'i, 'p, 'r, 'w, 'o>,
-    pub spared: &'n FirstNamed<'s, Text>,
+struct Lacks<'l, 'n, 's, S: Shapes> {
+    shapes: &'l S,
+    spared: &'n FirstNamed<'s, Text>,
 }
 
-impl<'l, 'i, 'p, 'r, 'w, 'o, 'n, 's> Question for Lacks<'l, 'i, 'p, 'r, 'w, 'o, 'n, 's> {
-    ghost asks = { λ q due r. lacks q.lookup.now q.spared.now due r };
+impl<'l, 'n, 's, S: Shapes> Question for Lacks<'l, 'n, 's, S> {
+    ghost asks = { λ q due r. lacks (S.env q.shapes.now) q.spared.now due r };
 
     fn passes_over(&self, text: &str) -> bool {
         is_plain(text)
@@ -88,7 +72,7 @@ impl<'l, 'i, 'p, 'r, 'w, 'o, 'n, 's> Question for Lacks<'l, 'i, 'p, 'r, 'w, 'o, 
         if !is_judged(alloc, self.spared, target)? {
             return Ok(false);
         }
-        Ok(!takes_due(alloc, self.lookup, due, reference)?)
+        Ok(!takes_due(alloc, self.shapes, due, reference)?)
     }
 }
 
@@ -115,15 +99,28 @@ impl Question for ToLater {
 }
 
 /// Whether some reference of these texts is to a parameter, none of those that are spared, and takes no value that is
-/// due. The only error is want of memory.
-pub(crate) fn any_lacks(
+/// due, by shapes. The only error is want of memory.
+pub(crate) fn any_lacks<S: Shapes>(
+    alloc: Global,
+    shapes: &S,
+    spared: &FirstNamed<'_, Text>,
+    texts: &[(Due, &str)],
+) -> Result<bool, AllocError>
+    requires { All (λ t. HasReading t.1.now) texts.now }
+    ensures { IfOk result (λ any. any ≡ any_lacks (S.env shapes.now) spared.now (seen texts.now)) }
+{
+    any_use(alloc, &Lacks { shapes, spared }, texts)
+}
+
+/// The same by the values that references take.
+pub(crate) fn any_lacks_value(
     alloc: Global,
     lookup: &Lookup,
     spared: &FirstNamed<'_, Text>,
     texts: &[(Due, &str)],
 ) -> Result<bool, AllocError>
     requires { All (λ t. HasReading t.1.now) texts.now }
-    ensures { IfOk result (λ any. any ≡ any_lacks lookup.now spared.now (seen texts.now)) }
+    ensures { IfOk result (λ any. any ≡ any_lacks_value lookup.now spared.now (seen texts.now)) }
 {
-    any_use(alloc, &Lacks { lookup, spared }, texts)
+    any_lacks(alloc, lookup, spared, texts)
 }

@@ -18,8 +18,9 @@ use crate::spaces::has_unbound;
 use crate::values::has_mismatch;
 use std::alloc::{AllocError, Global};
 use std::marker::Model;
-use tk_bind::FirstNamed;
-use tk_types::{Param, PipelineSpec, PipelineTask, RunObject, Space, SpaceSpec, TaskBody};
+use tk_types::{
+    FirstNamed, Param, PipelineSpec, PipelineTask, RunObject, Space, SpaceSpec, TaskBody,
+};
 
 /// Whether a text of a task misuses a result.
 fn task_misuses(

@@ -1,18 +1,22 @@
-ghost use Rattle.std.specs.Prelude.{◌≡◌, ◌<◌, [], ◌++◌, filter, map, not, true, IfOk, OnOk};
-ghost use Rattle.std.specs.Option.{ForSome, option_map_or};
+ghost use Rattle.std.specs.Prelude.{◌≡◌, ◌<◌, None, Some, IfOk};
+ghost use Rattle.std.specs.Option.{ForSome};
 ghost use Rattle.tk_matrix.specs.Product.{HasLists};
-ghost use Rattle.tk_matrix.specs.Task.{task_combination, task_combination_count};
-ghost use Rattle.tk_bind.specs.Readings.{ReadsMatrix, ReadsParam, ReadsParams, ReadsPipelineTask};
-ghost use Rattle.tk_early.specs.Settled.{is_settled};
-ghost use Rattle.tk_resolve.specs.declared.settled.KnownValues.{KnownValues as Values};
-ghost use Rattle.tk_resolve.specs.Settled.{early_params, is_late, judged_combinations, judged_count, known_combinations, late_names};
+ghost use Rattle.tk_matrix.specs.Task.{task_combination_count};
+ghost use Rattle.tk_bind.specs.Readings.{ReadsParam, ReadsPipelineTask};
+ghost use Rattle.tk_bind.specs.Params.{matrix_in};
+ghost use Rattle.tk_shape.specs.ShapeEnv.{shape_env};
+ghost use Rattle.tk_shape.specs.Substituted.{param_shapes};
+ghost use Rattle.tk_resolve.specs.declared.settled.KnownShapes.{KnownShapes as Shapes};
+ghost use Rattle.tk_resolve.specs.Settled.{early_params, is_late, judged_count, late_names};
+ghost use Rattle.tk_resolve.specs.Shapes.{IsUnknown, given_at};
 
 use crate::due::param_dues;
 use crate::questions::ToLater;
 use crate::uses::any_use;
 use std::alloc::{AllocError, Global};
-use tk_bind::{Lookup, matrix_in, params_in};
+use tk_bind::{Lookup, matrix_in};
 use tk_matrix::{combination, count};
+use tk_shape::{NamedShape, param_shapes};
 use tk_types::{List, Matrix, Param, PipelineTask, Text, TryCopy};
 
 /// Whether the value of a parameter is known only in the run.
@@ -74,28 +78,15 @@ pub(crate) fn own_params(alloc: Global, task: &PipelineTask) -> Result<OwnParams
     Ok(OwnParams { early, late })
 }
 
-/// Adds copies of parameters. The only error is want of memory.
-pub(crate) fn push_params(
-    alloc: Global,
-    made: &mut List<Param>,
-    params: &[Param],
-) -> Result<(), AllocError>
-    ensures { OnOk result (made.new ≡ made.old ++ params.now) }
-{
-    for param in params {
-        made.push(param.copy(alloc)?)?;
-    }
-    Ok(())
-}
-
-/// What of a settled task is known at admission: its early parameters and its matrix, with their references substituted.
+/// What of a settled task is known at admission: the shapes of its early parameters and its matrix, with their references
+/// substituted.
 #[derive(Drop)]
-pub(crate) struct KnownValues {
-    pub early: List<Param>,
+pub(crate) struct KnownShapes<'s> {
+    pub early: Vec<NamedShape<'s>>,
     pub matrix: Option<Matrix>,
 }
 
-impl KnownValues {
+impl<'s> KnownShapes<'s> {
     /// How many combinations are judged: none where they are more than 256.
     pub(crate) fn judged_count(&self) -> u32
         requires { ForSome self.now.matrix HasLists }
@@ -107,39 +98,38 @@ impl KnownValues {
         }
     }
 
-    /// The combination at an index, with the early parameters in front. The only error is want of memory.
-    pub(crate) fn combination(&self, alloc: Global, index: u32) -> Result<List<Param>, AllocError>
+    /// What the matrix gives at an index. The only error is want of memory.
+    pub(crate) fn given_at(&self, alloc: Global, index: u32) -> Result<List<Param>, AllocError>
         requires lists { ForSome self.now.matrix HasLists }
         requires below { index < task_combination_count self.now.matrix }
-        ensures { IfOk result (λ made. made ≡ task_combination self.now.early self.now.matrix index) }
+        ensures { IfOk result (λ given. given ≡ given_at self.now.matrix index) }
     {
-        let mut whole = self.early.copy(alloc)?;
-        if let Some(matrix) = &self.matrix {
-            let made = combination(alloc, matrix, index)?;
-            push_params(alloc, &mut whole, made.as_slice())?;
+        match &self.matrix {
+            None => Ok(List::new(alloc)),
+            Some(matrix) => combination(alloc, matrix, index),
         }
-        Ok(whole)
     }
 }
 
 /// What of a settled task is known at admission, unless a reference in it has no value. The only error is want of memory.
-pub(crate) fn known_values(
+pub(crate) fn known_shapes<'s>(
     alloc: Global,
-    lookup: &Lookup,
+    lookup: &'s Lookup,
     task: &PipelineTask,
-    early: &[Param],
-) -> Result<Option<KnownValues>, AllocError>
+    early: &'s [Param],
+) -> Result<Option<KnownShapes<'s>>, AllocError>
     requires task { ReadsPipelineTask task.now }
-    requires settled { is_settled task.now ≡ true }
     requires early { early.now ≡ early_params task.now }
-    ensures known { IfOk result (λ known. known_combinations lookup.now task.now ≡ option_map_or (λ (v : Values). judged_combinations v.early v.matrix) known []) }
-    ensures lists { IfOk result (λ known. ForSome known (λ (v : Values). ForSome v.matrix HasLists)) }
+    ensures shapes { IfOk result (λ known. ForSome known (λ (k : Shapes). param_shapes (shape_env lookup.now) (early_params task.now) ≡ Some k.early.items)) }
+    ensures matrix { IfOk result (λ known. ForSome known (λ (k : Shapes). matrix_in lookup.now task.now.matrix ≡ Some k.matrix)) }
+    ensures unknown { IfOk result (λ known. known ≡ None → IsUnknown lookup.now task.now) }
+    ensures lists { IfOk result (λ known. ForSome known (λ (k : Shapes). ForSome k.matrix HasLists)) }
 {
-    let Some(early) = params_in(alloc, lookup, early)? else {
+    let Some(early) = param_shapes(alloc, lookup, early)? else {
         return Ok(None);
     };
     match matrix_in(alloc, lookup, &task.matrix)? {
-        Some(matrix) => Ok(Some(KnownValues { early, matrix })),
+        Some(matrix) => Ok(Some(KnownShapes { early, matrix })),
         None => Ok(None),
     }
 }

@@ -2,8 +2,7 @@ ghost use Rattle.std.specs.Prelude.{◌≡◌, IfOk, option_map};
 ghost use Rattle.tk_resolve.specs.Spaces.{binding_named, handed_on, handed_spaces, has_unbound, is_unbound, joined_path, own_spaces, space_by};
 
 use std::alloc::{AllocError, Global};
-use tk_bind::FirstNamed;
-use tk_types::{List, Space, SpaceSpec, SpaceUse, Text, TryCopy};
+use tk_types::{FirstNamed, List, Space, SpaceSpec, SpaceUse, Text, TryCopy};
 
 /// Two paths joined by `/`, either of which may be empty.
 fn joined_path(alloc: Global, first: &Text, second: &Text) -> Result<Text, AllocError>

@@ -11,14 +11,14 @@ ghost use Rattle.tk_resolve.specs.Values.{has_missing};
 
 use crate::body_asks::BodyAsks;
 use crate::lookup::Earlier;
-use crate::questions::any_lacks;
+use crate::questions::any_lacks_value;
 use crate::reason::Reason;
 use crate::spaces::{has_unbound, own_spaces};
 use crate::task_run_spec::{no_spec, spec_of, task_name, task_run_with};
 use crate::values::{all_values, has_mismatch, has_missing};
 use std::alloc::{AllocError, Global};
-use tk_bind::{Env, FirstNamed, Lookup, index_of, step_env};
-use tk_types::{List, TaskBody, TaskRunObject, TaskRunSpec, TaskSpec, TryCopy};
+use tk_bind::{Env, Lookup, index_of, step_env};
+use tk_types::{FirstNamed, List, TaskBody, TaskRunObject, TaskRunSpec, TaskSpec, TryCopy};
 
 /// The body with a spec.
 fn body_with(alloc: Global, run: &TaskRunObject, spec: TaskSpec) -> Result<TaskBody, AllocError>
@@ -58,7 +58,7 @@ fn steps_lack(
     let index = index_of(alloc, env)?;
     let lookup = Lookup::new(&index, &[]);
     let spared = FirstNamed::new(alloc, &[])?;
-    any_lacks(alloc, &lookup, &spared, asks.as_slice())
+    any_lacks_value(alloc, &lookup, &spared, asks.as_slice())
 }
 
 /// Whether a declared parameter has no value, or a text takes of a parameter what isn't there or isn't due.

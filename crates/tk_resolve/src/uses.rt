@@ -1,12 +1,13 @@
 ghost use Rattle.std.specs.Prelude.{◌≡◌, false, All, IfOk, IsTrue};
 ghost use Rattle.std.specs.List.{list_any};
 ghost use Rattle.tk_vars.specs.Reading.{HasReading, pieces_of};
+ghost use Rattle.tk_vars.specs.Target.{references_of};
 ghost use Rattle.tk_resolve.specs.Due.{seen};
 ghost use Rattle.tk_resolve.specs.Misuse.{any_use, passes};
 
 use crate::due::Due;
 use std::alloc::{AllocError, Global};
-use tk_vars::{Piece, Reference, known_pieces};
+use tk_vars::{Reference, ReferenceTest, any_reference};
 
 /// A question about a reference where something is due.
 pub(crate) trait Question {
@@ -18,43 +19,30 @@ pub(crate) trait Question {
 
     /// Whether a text may be passed over without a look at its pieces: the answer is no for each of its references.
     fn passes_over(&self, text: &str) -> bool
-        ensures { IsTrue result → (due : Due) → list_any (passes (asks self.now due)) (pieces_of text.now) ≡ false };
+        ensures { IsTrue result → (due : Due) → list_any (asks self.now due) (references_of text.now) ≡ false };
 
     /// The answer. The only error is want of memory.
     fn holds(&self, alloc: Global, due: Due, reference: &Reference<'_>) -> Result<bool, AllocError>
         ensures { IfOk result (λ holds. holds ≡ asks self.now due reference.now) };
 }
 
-/// The answer for a piece, which is no for a plain one.
-fn piece_holds<Q: Question>(
-    alloc: Global,
-    question: &Q,
+/// A question where one thing is due.
+#[derive(Drop)]
+struct WhereDue<'q, Q: Question> {
+    question: &'q Q,
     due: Due,
-    piece: &Piece<'_>,
-) -> Result<bool, AllocError>
-    ensures { IfOk result (λ holds. holds ≡ passes (Q.asks question.now due) piece.now) }
-{
-    match piece {
-        Piece::Plain(_) => Ok(false),
-        Piece::Ref(reference) => question.holds(alloc, due, reference),
-    }
 }
 
-/// Whether the answer is yes for some piece.
-fn any_piece<Q: Question>(
-    alloc: Global,
-    question: &Q,
-    due: Due,
-    pieces: &[Piece<'_>],
-) -> Result<bool, AllocError>
-    ensures { IfOk result (λ any. any ≡ list_any (passes (Q.asks question.now due)) pieces.now) }
-{
-    for piece in pieces {
-        if piece_holds(alloc, question, due, piece)? {
-            return Ok(true);
-        }
+impl<'q, Q: Question> ReferenceTest for WhereDue<'q, Q> {
+    ghost is_met = { λ test. Q.asks test.question.now test.due };
+
+    fn passes_over(&self, text: &str) -> bool {
+        self.question.passes_over(text)
     }
-    Ok(false)
+
+    fn meets(&self, alloc: Global, reference: &Reference<'_>) -> Result<bool, AllocError> {
+        Ok(self.question.holds(alloc, self.due, reference)?)
+    }
 }
 
 /// Whether the answer is yes for some reference of a text.
@@ -67,11 +55,7 @@ fn any_in_text<Q: Question>(
     requires { HasReading text.now }
     ensures { IfOk result (λ any. any ≡ list_any (passes (Q.asks question.now due)) (pieces_of text.now)) }
 {
-    if question.passes_over(text) {
-        return Ok(false);
-    }
-    let pieces = known_pieces(alloc, text)?;
-    any_piece(alloc, question, due, pieces.as_slice())
+    any_reference(alloc, &WhereDue { question, due }, text)
 }
 
 /// Whether the answer is yes for some reference of these texts. The only error is want of memory.

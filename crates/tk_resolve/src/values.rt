@@ -5,8 +5,8 @@ ghost use Rattle.tk_bind.specs.Scope.{declared};
 ghost use Rattle.tk_resolve.specs.Values.{all_values, default_param, defaults, has_mismatch, has_missing, is_mismatch, is_missing, outer_value, outer_values, undeclared, valued};
 
 use std::alloc::{AllocError, Global};
-use tk_bind::{BindError, FirstNamed, Sources, bound_param, completed, first_value};
-use tk_types::{List, Param, ParamSpec, TryCopy};
+use tk_bind::{BindError, Sources, bound_param, completed, first_value};
+use tk_types::{FirstNamed, List, Param, ParamSpec, TryCopy};
 
 /// Given values with nothing outside.
 fn alone<'a>(alloc: Global, given: &'a [Param]) -> Result<Sources<'a>, AllocError>

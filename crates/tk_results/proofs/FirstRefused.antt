@@ -6,10 +6,11 @@ use Rattle.tk_types.specs.declared.value.Param.{Param}
 use Rattle.tk_types.specs.declared.value.ResultSpec.{ResultSpec}
 use Rattle.tk_types.specs.declared.value.Value.{Value}
 use Rattle.tk_types.specs.Lists.{all_ok}
+use Rattle.tk_types.specs.Limits.{most_result_bytes}
 use Rattle.tk_results.specs.declared.files.Fetched.{Fetched}
 use Rattle.tk_results.specs.declared.refusal.GatherError.{GatherError}
 use Rattle.tk_results.specs.declared.refusal.GatherError.TheVariants.{TooMany, Bad}
-use Rattle.tk_results.specs.Gathered.{emitted, file_of, gathered, most_bytes, total_of}
+use Rattle.tk_results.specs.Gathered.{emitted, file_of, gathered, total_of}
 use Rattle.tk_results.specs.Read.{value_of}
 use Rattle.tk_results.specs.Told.{IsFirstRefused, IsRefused}
 
@@ -75,4 +76,4 @@ refused_of true bytes left name e = let e' : (let r : Result (List Param) Gather
 refused_of false bytes left name e = e
 
 pub first_refused : (specs : List ResultSpec) (files : List Fetched) (name : List ℕ) → gathered specs files ≡ Err (Bad name) → IsFirstRefused files specs name
-first_refused specs files name e = first_in files specs name (refused_of (nat_lt most_bytes (total_of specs files)) _ (all_ok (filter_map (emitted files) specs)) name e)
+first_refused specs files name e = first_in files specs name (refused_of (nat_lt most_result_bytes (total_of specs files)) _ (all_ok (filter_map (emitted files) specs)) name e)

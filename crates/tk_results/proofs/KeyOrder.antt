@@ -16,7 +16,8 @@ use Rattle.tk_types.specs.declared.value.ParamType.TheVariants.{Obj as object}
 use Rattle.tk_types.specs.declared.value.Value.{Value}
 use Rattle.tk_types.specs.declared.value.Value.TheVariants.{Str, Arr, Obj}
 use Rattle.tk_types.specs.Lists.{all_some}
-use Rattle.tk_results.specs.Read.{json_of, members, object_of, pair_of, pairs_of, text_of, value_of}
+use Rattle.tk_types.specs.Json.{json_of, text_of}
+use Rattle.tk_results.specs.Read.{members, object_of, pair_of, pairs_of, value_of}
 
 abbrev order : List ℕ → List ℕ → Ordering
 order = slice_cmp nat_cmp

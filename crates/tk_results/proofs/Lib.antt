@@ -5,5 +5,4 @@ pub mod FirstRefused
 pub mod JsonText
 pub mod KeyOrder
 pub mod ReadsBack
-pub mod Texts
 pub mod Undeclared

@@ -7,10 +7,11 @@ use Rattle.std.proofs.lemmas.List.Sums.{sum_by-cons}
 use Rattle.tk_types.specs.declared.value.Param.{Param}
 use Rattle.tk_types.specs.declared.value.ResultSpec.{ResultSpec}
 use Rattle.tk_types.specs.Lists.{all_ok}
+use Rattle.tk_types.specs.Limits.{most_result_bytes}
 use Rattle.tk_results.specs.declared.files.Fetched.{Fetched}
 use Rattle.tk_results.specs.declared.refusal.GatherError.{GatherError}
 use Rattle.tk_results.specs.declared.refusal.GatherError.TheVariants.{TooMany}
-use Rattle.tk_results.specs.Gathered.{emitted, file_of, gathered, most_bytes, size_of, total_of}
+use Rattle.tk_results.specs.Gathered.{emitted, file_of, gathered, size_of, total_of}
 use Rattle.tk_results.specs.Told.{is_undeclared}
 
 find-skipped : {X : Type 0} (p : X → Bool) (before after : List X) (x : X) → p x ≡ false → find p (before ++ x ∷ after) ≡ find p (before ++ after)
@@ -44,5 +45,5 @@ emitted-skipped (spec ∷ specs) before after file h =
 
 pub undeclared : (specs : List ResultSpec) (before after : List Fetched) (file : Fetched) → IsTrue (is_undeclared specs file) → gathered specs (before ++ file ∷ after) ≡ gathered specs (before ++ after)
 undeclared specs before after file h =
-    let answer : ℕ → List (Result Param GatherError) → Result (List Param) GatherError = λ total given. cond (nat_lt most_bytes total) (Err (TooMany (min total (2 ^ 64 - 1)))) (all_ok given) in
+    let answer : ℕ → List (Result Param GatherError) → Result (List Param) GatherError = λ total given. cond (nat_lt most_result_bytes total) (Err (TooMany (min total (2 ^ 64 - 1)))) (all_ok given) in
     λ i. answer (total-skipped specs before after file h i) (emitted-skipped specs before after file h i)

@@ -6,6 +6,7 @@ use Rattle.tk_types.specs.declared.value.Param.{Param}
 use Rattle.tk_types.specs.declared.value.ResultSpec.{ResultSpec}
 use Rattle.tk_types.specs.declared.value.Value.{Value}
 use Rattle.tk_types.specs.Lists.{all_ok}
+use Rattle.tk_types.specs.Limits.{most_result_bytes}
 use Rattle.tk_results.specs.declared.files.Fetched.{Fetched}
 use Rattle.tk_results.specs.declared.refusal.GatherError.{GatherError}
 use Rattle.tk_results.specs.declared.refusal.GatherError.TheVariants.{TooMany, Bad, Memory}
@@ -30,14 +31,10 @@ param_of spec bytes = ok_or (option_map (λ (value : Value). record { name = spe
 abbrev pub emitted : List Fetched → ResultSpec → Option (Result Param GatherError)
 emitted files spec = option_map (param_of spec) (file_of files spec.name)
 
--- the most bytes that the results of an attempt may have together
-abbrev pub most_bytes : ℕ
-most_bytes = 4096
-
 -- the emitted results in the order of their declarations, or the first that is refused; none where their files are too large
 abbrev pub gathered : List ResultSpec → List Fetched → Result (List Param) GatherError
 gathered specs files =
-    if nat_lt most_bytes (total_of specs files) then Err (TooMany (min (total_of specs files) (2 ^ 64 - 1))) else all_ok (filter_map (emitted files) specs)
+    if nat_lt most_result_bytes (total_of specs files) then Err (TooMany (min (total_of specs files) (2 ^ 64 - 1))) else all_ok (filter_map (emitted files) specs)
 
 -- an error is the one that is due; memory may run out at any time
 abbrev pub IsGatherRefusal : {X : Type 0} → Result X GatherError → GatherError → Type 0

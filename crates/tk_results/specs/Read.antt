@@ -1,25 +1,16 @@
 -- What a result file says by its type (Tekton, Tasks, Emitting Results).
 use Rattle.std.specs.Prelude.{◌≡◌, ℕ, List, [], ◌∷◌, map, Option, Some, None, Result, Err, if◌then◌else◌, ok_or, option_and_then, option_map}
-use Rattle.std.specs.Str.{is_utf8}
 use Rattle.serde_json.specs.Data.{Data, Items, no_items, item, Members, no_members, member}
 use Rattle.serde_json.specs.Find.{as_array, as_object, as_str}
-use Rattle.serde_json.specs.Read.{read}
 use Rattle.tk_types.specs.declared.value.Pair.{Pair}
 use Rattle.tk_types.specs.declared.value.ParamType.{ParamType}
 use Rattle.tk_types.specs.declared.value.ParamType.TheVariants.{Str as string, Arr as array, Obj as object}
 use Rattle.tk_types.specs.declared.value.Value.{Value}
 use Rattle.tk_types.specs.declared.value.Value.TheVariants.{Str, Arr, Obj}
+use Rattle.tk_types.specs.Json.{json_of, text_of}
 use Rattle.tk_types.specs.Lists.{all_some}
 use Rattle.tk_results.specs.declared.refusal.ReadError.{ReadError}
 use Rattle.tk_results.specs.declared.refusal.ReadError.TheVariants.{BadText, BadList, BadObject, Memory}
-
--- the text that bytes are, if they are UTF-8
-abbrev pub text_of : List ℕ → Option (List ℕ)
-text_of bytes = if is_utf8 bytes then Some bytes else None
-
--- the JSON value that bytes are, if they are a text of JSON
-abbrev pub json_of : List ℕ → Option Data
-json_of bytes = option_and_then read (text_of bytes)
 
 -- the elements of an array in order, and the members of an object in the order of their keys
 abbrev pub elements : Items → List Data

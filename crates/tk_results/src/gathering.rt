@@ -7,10 +7,7 @@ use crate::files::{Fetched, count_bytes, file_of};
 use crate::read::value_of;
 use crate::refusal::GatherError;
 use std::alloc::Global;
-use tk_types::{List, Param, ResultSpec, TryCopy};
-
-/// The most bytes that the result files of an attempt may hold together.
-pub const MAX_RESULT_BYTES: u64 = 4_096;
+use tk_types::{List, MOST_RESULT_BYTES, Param, ResultSpec, TryCopy};
 
 /// The result of a file's bytes.
 fn param_of(alloc: Global, spec: &ResultSpec, bytes: &[u8]) -> Result<Param, GatherError>
@@ -55,7 +52,7 @@ pub fn gather(
     ensures refused { IfErr result (IsGatherRefusal (gathered specs.now files.now)) }
 {
     let bytes = count_bytes(specs, files);
-    if bytes > MAX_RESULT_BYTES {
+    if bytes > MOST_RESULT_BYTES {
         return Err(GatherError::TooMany { bytes });
     }
     emitted(alloc, specs, files)

@@ -10,11 +10,10 @@ pub mod laws;
 mod read;
 mod refusal;
 mod strings;
-mod text;
 mod written;
 
 pub use files::Fetched;
-pub use gathering::{MAX_RESULT_BYTES, gather};
+pub use gathering::gather;
 pub use read::read_result;
 pub use refusal::{GatherError, ReadError};
 pub use written::json_text;

@@ -1,11 +1,11 @@
 ghost use Rattle.std.specs.Prelude.{◌≡◌, IfErr, IfOk, Ok, option_and_then};
-ghost use Rattle.tk_results.specs.Read.{IsReadRefusal, fault_of, json_of as json_due, list_of as list_due, object_of as object_due, result_of, text_of as text_due, value_of};
+ghost use Rattle.tk_types.specs.Json.{json_of as json_due, text_of as text_due};
+ghost use Rattle.tk_results.specs.Read.{IsReadRefusal, fault_of, list_of as list_due, object_of as object_due, result_of, value_of};
 
 use crate::refusal::ReadError;
-use crate::strings::{json_of, list_of, object_of};
-use crate::text::text_of;
+use crate::strings::{list_of, object_of};
 use std::alloc::{AllocError, Global};
-use tk_types::{List, Pair, ParamType, Text, Value};
+use tk_types::{List, Pair, ParamType, Text, Value, json_of, text_of};
 
 /// A text of all the bytes, if they are UTF-8.
 fn text_in(alloc: Global, bytes: &[u8]) -> Result<Option<Text>, AllocError>

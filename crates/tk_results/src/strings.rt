@@ -1,25 +1,10 @@
 ghost use Rattle.std.specs.Prelude.{◌≡◌, IfOk, option_map};
 ghost use Rattle.serde_json.specs.View.{items_view, members_view, view};
-ghost use Rattle.tk_results.specs.Read.{elements, json_of, list_of, members, object_of, pair_of, pairs_of, texts_of};
+ghost use Rattle.tk_results.specs.Read.{elements, list_of, members, object_of, pair_of, pairs_of, texts_of};
 
-use crate::text::text_of;
 use serde_json::{Map, Value};
 use std::alloc::{AllocError, Global};
 use tk_types::{List, Pair, Text};
-
-/// The JSON value that bytes are, if they are a text of JSON.
-pub(crate) fn json_of(alloc: Global, bytes: &[u8]) -> Result<Option<Value>, AllocError>
-    ensures { IfOk result (λ value. option_map (λ v. view v) value ≡ json_of bytes.now) }
-{
-    let Some(text) = text_of(bytes) else {
-        return Ok(None);
-    };
-    match Value::from_str(alloc, text) {
-        Ok(value) => Ok(Some(value)),
-        Err(error) if error.is_memory() => Err(AllocError),
-        Err(_) => Ok(None),
-    }
-}
 
 /// The texts that JSON values are, if all are strings.
 fn texts_of(alloc: Global, items: &[Value]) -> Result<Option<List<Text>>, AllocError>

@@ -8,7 +8,7 @@ use Rattle.tk_types.specs.declared.object.Asked.TheVariants as asks
 use Rattle.tk_types.specs.declared.task.PipelineTask.{PipelineTask}
 use Rattle.tk_types.specs.declared.task.TaskBody.{TaskBody}
 use Rattle.tk_types.specs.declared.verdict.Binding.{Binding}
-use Rattle.tk_verdict.specs.Facts.{level_of}
+use Rattle.tk_types.specs.Behaviour.{level_of}
 use Rattle.tk_journal.specs.declared.act.Act.{Act}
 use Rattle.tk_journal.specs.declared.act.Act.TheVariants as acts
 use Rattle.tk_journal.specs.declared.entry.Entry.{Entry}

@@ -15,7 +15,7 @@ use Rattle.tk_types.specs.declared.run.Start.TheVariants.{Ready}
 use Rattle.tk_types.specs.declared.verdict.Binding.{Binding}
 use Rattle.tk_types.specs.declared.verdict.Verdict.{Verdict}
 use Rattle.tk_verdict.specs.Condition.{condition_of}
-use Rattle.tk_verdict.specs.Facts.{level_of}
+use Rattle.tk_types.specs.Behaviour.{level_of}
 use Rattle.tk_verdict.specs.Gives.{label_of}
 use Rattle.tk_verdict.specs.Labels.{labels_of, ready_bindings}
 use Rattle.tk_verdict.specs.Progress.{AllDone}

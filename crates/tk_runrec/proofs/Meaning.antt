@@ -18,7 +18,7 @@ use Rattle.tk_types.specs.declared.object.Asked.TheVariants as asks
 use Rattle.tk_journal.specs.declared.object.RunState.{RunState}
 use Rattle.tk_journal.specs.declared.object.TaskRunState.{TaskRunState}
 use Rattle.tk_journal.specs.Lists.{IsThere, Has}
-use Rattle.tk_verdict.specs.Facts.{level_of}
+use Rattle.tk_types.specs.Behaviour.{level_of}
 use Rattle.tk_verdict.specs.Verdict.{is_done}
 use Rattle.tk_journal.specs.RunRows.{IsHighestAsked}
 use Rattle.tk_journal.specs.Stops.{asked_level, asked_stop, reach_level, IsReached, HasPassed}

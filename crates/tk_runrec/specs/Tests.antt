@@ -10,7 +10,7 @@ use Rattle.tk_types.specs.declared.run.Stop.{Stop}
 use Rattle.tk_types.specs.declared.run.Stop.TheVariants as stops
 use Rattle.tk_types.specs.declared.verdict.Verdict.{Verdict}
 use Rattle.tk_types.specs.Lists.{is_empty}
-use Rattle.tk_verdict.specs.Facts.{level_of}
+use Rattle.tk_types.specs.Behaviour.{level_of}
 use Rattle.tk_labels.specs.Kept.{is_bad}
 use Rattle.tk_journal.specs.declared.object.RunState.{RunState}
 use Rattle.tk_journal.specs.declared.object.Scheduled.{Scheduled}

@@ -2,7 +2,7 @@ ghost use Rattle.std.specs.Prelude.{◌≡◌, ◌<◌, ◌^◌, length, nat_lt,
 ghost use Rattle.std.specs.List.{list_all};
 ghost use Rattle.tk_types.specs.declared.object.Asked.{Asked as AnAsked};
 ghost use Rattle.tk_types.specs.declared.run.Stop.{Stop as AStop};
-ghost use Rattle.tk_verdict.specs.Facts.{level_of as level_of_stop};
+ghost use Rattle.tk_types.specs.Behaviour.{level_of as level_of_stop};
 ghost use Rattle.tk_verdict.specs.Labels.{labels_of};
 ghost use Rattle.tk_verdict.specs.Verdict.{is_ready as is_ready_label};
 ghost use Rattle.tk_journal.specs.RunRows.{facts_in};
@@ -13,7 +13,7 @@ ghost use Rattle.tk_runrec.specs.Fit.{IsFit};
 ghost use Rattle.tk_runrec.specs.Labels.{first_ready as first_ready_of};
 ghost use Rattle.tk_runrec.specs.Tests.{may_go_on, may_finish, may_schedule};
 
-use crate::stops::{asked_level, is_of_finally, level_of};
+use crate::stops::{asked_level, is_of_finally};
 use std::alloc::{AllocError, Global};
 use tk_cache::Cache;
 use tk_journal::{Act, RunState};
@@ -35,7 +35,7 @@ fn are_asked_below(asked: &[Asked]) -> bool
 fn are_recorded_below(recorded: &[Stop]) -> bool
     ensures { result ≡ list_all (λ (s : AStop). nat_lt (level_of_stop s) 3) recorded.now }
 {
-    recorded.iter().all(|stop| level_of(*stop) < 3)
+    recorded.iter().all(|stop| stop.level() < 3)
 }
 
 /// Whether nothing holds back the tasks of `tasks`.

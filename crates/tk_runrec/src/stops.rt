@@ -2,25 +2,13 @@ ghost use Rattle.std.specs.Prelude.{◌≡◌, ◌&&◌, nat_le, nat_lt, nat_eq}
 ghost use Rattle.std.specs.List.{list_any, list_all};
 ghost use Rattle.tk_types.specs.declared.object.Asked.{Asked as AnAsked};
 ghost use Rattle.tk_types.specs.declared.run.Stop.{Stop as AStop};
-ghost use Rattle.tk_verdict.specs.Facts.{level_of as level_of_stop};
+ghost use Rattle.tk_types.specs.Behaviour.{level_of as level_of_stop};
 ghost use Rattle.tk_journal.specs.Effects.{is_final};
 ghost use Rattle.tk_journal.specs.Stops.{asked_level as level_of_asked};
 ghost use Rattle.tk_runrec.specs.Tests.{starts_ready, asks_for, is_highest, is_recorded, is_above, is_reached, has_passed};
 
 use tk_journal::RunState;
 use tk_types::{Asked, RunSpec, Start, Stop};
-
-/// How far a stop goes (Tekton, PipelineRuns, Cancelling a PipelineRun).
-pub(crate) fn level_of(stop: Stop) -> u32
-    ensures { result ≡ level_of_stop stop }
-{
-    match stop {
-        Stop::Failure | Stop::StoppedRunFinally => 1,
-        Stop::CancelledRunFinally | Stop::TasksTimeout => 2,
-        Stop::FinallyTimeout => 3,
-        Stop::Cancelled | Stop::PipelineTimeout => 4,
-    }
-}
 
 /// The level of the stop that is asked for.
 pub(crate) fn asked_level(status: Asked) -> u32
@@ -70,7 +58,7 @@ fn is_none_higher(asked: &[Asked], stop: Stop) -> bool
 {
     asked
         .iter()
-        .all(|status| asked_level(*status) <= level_of(stop))
+        .all(|status| asked_level(*status) <= stop.level())
 }
 
 /// Whether the stop is asked for, and no higher status is.
@@ -85,7 +73,7 @@ fn is_one_as_high(recorded: &[Stop], status: Asked) -> bool
 {
     recorded
         .iter()
-        .any(|stop| asked_level(status) <= level_of(*stop))
+        .any(|stop| asked_level(status) <= stop.level())
 }
 
 /// Whether the asked status is recorded, or of level 0.
@@ -99,8 +87,8 @@ pub(crate) fn was_recorded(recorded: &[Stop], status: Asked) -> bool
 pub(crate) fn is_above_all(recorded: &[Stop], stop: Stop) -> bool
     ensures { result ≡ is_above recorded.now stop }
 {
-    let level = level_of(stop);
-    recorded.iter().all(|before| level_of(*before) < level)
+    let level = stop.level();
+    recorded.iter().all(|before| before.level() < level)
 }
 
 /// Whether a recorded stop reaches the task's children.
@@ -108,10 +96,7 @@ pub(crate) fn reaches(run: &RunState, task: u32) -> bool
     ensures { result ≡ is_reached run.now task }
 {
     let from: u32 = if is_of_finally(&run.spec, task) { 3 } else { 2 };
-    run.stops
-        .as_slice()
-        .iter()
-        .any(|stop| from <= level_of(*stop))
+    run.stops.as_slice().iter().any(|stop| from <= stop.level())
 }
 
 /// Whether the timeout, in milliseconds, is set and has passed at the moment (Tekton, PipelineRuns, Configuring a failure

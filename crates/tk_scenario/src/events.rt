@@ -7,8 +7,8 @@ use crate::actors::Counts;
 use crate::event::{event, reading_after};
 use serde_json::Value;
 use std::alloc::Global;
-use tk_fields::{Location, elements_of, refusal};
-use tk_types::{Event, List, Rejected};
+use tk_fields::elements_of;
+use tk_types::{Event, Fault, List, Location, Rejected, refusal};
 
 /// The event that a text tells while the clock has a reading; another text is `BadChoice`.
 #[tactic(auto, unfolding(crate::specs::Scenario::event, crate::specs::Scenario::event_told))]
@@ -22,11 +22,11 @@ fn read_event(
     ensures { Reads (event_check counts reading place.now (view value.now)) (event_told counts reading (view value.now)) result }
 {
     let Some(text) = value.as_str() else {
-        return Err(refusal(alloc, 2, place));
+        return Err(refusal(alloc, Fault::WRONG_SHAPE, place));
     };
     match event(alloc, counts, reading, text)? {
         Some(event) => Ok(event),
-        None => Err(refusal(alloc, 11, place)),
+        None => Err(refusal(alloc, Fault::BAD_CHOICE, place)),
     }
 }
 
@@ -65,6 +65,6 @@ pub(crate) fn read_events(
     };
     match elements_of(value) {
         Some(items) => read_texts(alloc, counts, items, &place.key("events")),
-        None => Err(refusal(alloc, 2, &place.key("events"))),
+        None => Err(refusal(alloc, Fault::WRONG_SHAPE, &place.key("events"))),
     }
 }

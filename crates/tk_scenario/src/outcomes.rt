@@ -10,10 +10,10 @@ use serde_json::Value;
 use std::alloc::Global;
 use std::collections::BTreeSet;
 use tk_fields::{
-    AnyText, Below8, Below32, Each, EachMember, Location, OrEmpty, Reader, TextEntry, check_object,
-    elements_of, field_table, or_empty, refusal, required,
+    AnyText, Below8, Below32, Each, EachMember, OrEmpty, Reader, TextEntry, check_object,
+    elements_of, field_table, or_empty, required,
 };
-use tk_types::{List, Rejected, Scripted};
+use tk_types::{Fault, List, Location, Rejected, Scripted, refusal};
 
 /// The form of an outcome.
 struct OutcomeForm;
@@ -73,7 +73,7 @@ fn read_element(
 fn stands_before(alloc: Global, place: &Location<'_>, index: u64) -> Rejected
     ensures { IsRefusal (Some (bad_choice (place.now # index))) result }
 {
-    refusal(alloc, 11, &place.at(index))
+    refusal(alloc, Fault::BAD_CHOICE, &place.at(index))
 }
 
 /// Outcomes in order, no two of one attempt; the later of two is `BadChoice`.
@@ -116,7 +116,7 @@ impl Reader for OutcomesForm {
     ) -> Result<List<Scripted>, Rejected> {
         match elements_of(value) {
             Some(items) => read_items(alloc, items, place),
-            None => Err(refusal(alloc, 2, place)),
+            None => Err(refusal(alloc, Fault::WRONG_SHAPE, place)),
         }
     }
 }

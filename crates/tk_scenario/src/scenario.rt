@@ -9,8 +9,8 @@ use crate::events::read_events;
 use crate::outcomes::OutcomesForm;
 use serde_json::Value;
 use std::alloc::Global;
-use tk_fields::{Location, Reader, check_object, field_table, optional, or_empty, refusal};
-use tk_types::{List, Rejected, Scenario, Scripted};
+use tk_fields::{Reader, check_object, field_table, optional, or_empty};
+use tk_types::{Fault, List, Location, Rejected, Scenario, Scripted, refusal};
 
 /// The form of a number of controllers or of kubelets: 1 to 8.
 struct CountForm;
@@ -25,8 +25,8 @@ impl Reader for CountForm {
     fn read(alloc: Global, value: &Value, place: &Location<'_>) -> Result<u32, Rejected> {
         match value.as_u64() {
             Some(number) if 1 <= number && number <= 8 => Ok(number as u32),
-            Some(_) => Err(refusal(alloc, 11, place)),
-            None => Err(refusal(alloc, 2, place)),
+            Some(_) => Err(refusal(alloc, Fault::BAD_CHOICE, place)),
+            None => Err(refusal(alloc, Fault::WRONG_SHAPE, place)),
         }
     }
 }

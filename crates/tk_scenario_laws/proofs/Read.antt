@@ -15,7 +15,8 @@ use Rattle.tk_manifest.specs.declared.item.Heading.{Heading}
 use Rattle.tk_manifest.specs.declared.kinds.KindSet.{KindSet}
 use Rattle.tk_manifest.specs.declared.kinds.ObjectKind.{ObjectKind}
 use Rattle.tk_manifest.specs.declared.kinds.ObjectKind.TheVariants.{Scenario}
-use Rattle.tk_manifest.specs.Input.{body, body_of, is_list, items_from, json_fault, json_of, list, list_items, list_items_of, objects_of, reading_fault, whole, whole_of}
+use Rattle.tk_types.specs.Json.{json_of}
+use Rattle.tk_manifest.specs.Input.{body, body_of, is_list, items_from, json_fault, list, list_items, list_items_of, objects_of, reading_fault, whole, whole_of}
 use Rattle.tk_manifest.specs.Item.{headed, headed_at, heading_of, item, item_at, kind_told, object, object_at, object_spec}
 use Rattle.tk_manifest.specs.Kind.{object_made, spec}
 use Rattle.tk_read_laws.proofs.Fields.{required_at}

@@ -1,4 +1,3 @@
-pub mod AllOk
 pub mod AllThere
 pub mod Binds
 pub mod Counting

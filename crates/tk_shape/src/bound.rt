@@ -1,7 +1,6 @@
 use crate::shape::Shape;
 use std::marker::Model;
-use tk_bind::Named;
-use tk_types::{ParamType, Text};
+use tk_types::{Named, ParamType, Text};
 use tk_vars::Part;
 
 /// The shape of a bound parameter: that of its value, and of an object the keys that only the default has. A contract

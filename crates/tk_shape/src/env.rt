@@ -9,8 +9,8 @@ use crate::sources::ShapeSources;
 use crate::taken::Shapes;
 use std::alloc::{AllocError, Global};
 use std::marker::Model;
-use tk_bind::{FirstNamed, Target, key_of, key_part, target_of};
-use tk_types::{Pair, ParamType};
+use tk_bind::{Target, key_of, key_part, target_of};
+use tk_types::{FirstNamed, Pair, ParamType};
 use tk_vars::{Part, Reference};
 
 /// What the texts of a task's steps take, by its shape: bound parameters, then those that are given, given outside and

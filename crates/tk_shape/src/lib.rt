@@ -19,7 +19,7 @@ mod wanted;
 pub use binding::{bound_shape, bound_shapes};
 pub use bound::BoundShape;
 pub use env::TaskShapes;
-pub use named::{NamedShape, shapes_of};
+pub use named::{NamedShape, shapes_of, shapes_with};
 pub use presence::{has_value, have_elements, have_pairs};
 pub use shape::Shape;
 pub use sources::ShapeSources;

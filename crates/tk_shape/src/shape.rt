@@ -6,8 +6,7 @@ ghost use Rattle.tk_shape.specs.Shape.{has_key, keyed, keys_of, kind_of, many, s
 
 use std::alloc::{AllocError, Global};
 use std::marker::Model;
-use tk_bind::FirstNamed;
-use tk_types::{Pair, ParamType, Text, Value};
+use tk_types::{FirstNamed, Pair, ParamType, Text, Value};
 use tk_vars::Part;
 
 /// A shape as it is kept: of an object the pairs that have its keys, indexed.
@@ -139,6 +138,17 @@ impl<'v> Shape<'v> {
             Value::Str(_) => Ok(Shape::one()),
             Value::Arr(texts) => Ok(Shape::many(texts.len() as u128)),
             Value::Obj(pairs) => Shape::keyed(alloc, pairs.as_slice()),
+        }
+    }
+
+    /// The same shape, for as long as this one is borrowed. The only error is want of memory.
+    pub fn again(&self, alloc: Global) -> Result<Shape<'_>, AllocError>
+        ensures { IfOk result (λ shape. shape ≡ self.now) }
+    {
+        match &self.form {
+            Form::One => Ok(Shape::one()),
+            Form::Many(count) => Ok(Shape::many(*count)),
+            Form::Keyed(pairs) => Shape::keyed(alloc, &*pairs.items()),
         }
     }
 

@@ -7,7 +7,7 @@ use crate::named::NamedShape;
 use crate::shape::Shape;
 use crate::wanted::WantedShape;
 use std::alloc::{AllocError, Global};
-use tk_bind::FirstNamed;
+use tk_types::FirstNamed;
 
 /// Where shapes are sought, by their names: of what is given, of what is given outside and of the defaults outside.
 /// Those of one lifetime are made in one function, from references of that lifetime, and sought in another.

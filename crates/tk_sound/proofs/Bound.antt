@@ -22,7 +22,8 @@ use Rattle.tk_bind.specs.declared.refusal.BindError.TheVariants.{Missing, WrongK
 use Rattle.tk_bind.specs.Bind.{bound_param, bound_params, bound_to, completed, first_value, has_keys}
 use Rattle.tk_bind.specs.Scope.{declared}
 use Rattle.tk_bind.specs.Selector.{selected}
-use Rattle.tk_resolve.specs.Due.{DueText, is_due, type_of}
+use Rattle.tk_types.specs.Behaviour.{type_of}
+use Rattle.tk_resolve.specs.Due.{DueText, is_due}
 use Rattle.tk_resolve.specs.Misuse.{any_lacks, any_use, lacks}
 use Rattle.tk_resolve.specs.Values.{all_values, has_mismatch, has_missing, is_mismatch, is_missing, undeclared, valued}
 use Rattle.tk_sound.proofs.Values.{lacks_of}

@@ -24,8 +24,8 @@ use Rattle.tk_vars.proofs.TextFacts.{same_text}
 use Rattle.tk_bind.specs.declared.env.Env.{Env}
 use Rattle.tk_bind.specs.declared.refusal.BindError.{BindError}
 use Rattle.tk_bind.specs.Fits.{context_words, fits, result_words, space_words, step_env, step_has_values, step_texts}
-use Rattle.tk_bind.specs.Scope.{is_in}
-use Rattle.tk_bind.proofs.FirstFound.{bytes_eq-swap}
+use Rattle.tk_types.specs.Names.{is_in}
+use Rattle.tk_types.proofs.FirstFound.{bytes_eq-swap}
 use Rattle.tk_bind.proofs.WordFacts.{text_at-append}
 use Rattle.tk_validate.specs.Seen.{keys, task_context}
 use Rattle.tk_resolve.specs.Due.{step_dues}

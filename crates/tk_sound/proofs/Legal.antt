@@ -18,7 +18,7 @@ use Rattle.tk_types.specs.Behaviour.{kind_of, name_of}
 use Rattle.tk_types.specs.Place.{Place}
 use Rattle.tk_names.specs.Clash.{clash}
 use Rattle.tk_names.proofs.ClashLaw.{clash-none_is}
-use Rattle.tk_bind.proofs.FirstFound.{bytes_eq-swap}
+use Rattle.tk_types.proofs.FirstFound.{bytes_eq-swap}
 use Rattle.tk_journal.specs.declared.act.Admission.{Admission}
 use Rattle.tk_journal.specs.declared.act.Admission.TheVariants.{Run, Task}
 use Rattle.tk_journal.specs.declared.entry.Entry.{Entry}

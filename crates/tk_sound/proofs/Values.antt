@@ -14,7 +14,8 @@ use Rattle.tk_bind.specs.declared.env.Env.{Env}
 use Rattle.tk_bind.specs.Selector.{selected}
 use Rattle.tk_bind.specs.Substitute.{as_list, as_text, target_value}
 use Rattle.tk_types.specs.declared.task.Step.{Step}
-use Rattle.tk_resolve.specs.Due.{DueText, element_dues, is_due, single_dues, type_of}
+use Rattle.tk_types.specs.Behaviour.{type_of}
+use Rattle.tk_resolve.specs.Due.{DueText, element_dues, is_due, single_dues}
 use Rattle.tk_resolve.specs.Misuse.{is_judged}
 use Rattle.tk_sound.proofs.Stars.{IsPlainTarget, IsStarTarget, last_or}
 

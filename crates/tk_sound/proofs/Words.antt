@@ -15,7 +15,8 @@ use Rattle.tk_vars.specs.Offset.{bad_offset}
 use Rattle.tk_vars.specs.Target.{Target, param, result, word, target_of, references_of}
 use Rattle.tk_bind.specs.Check.{first_failing}
 use Rattle.tk_bind.specs.Fits.{result_words, space_words, step_elements, step_single_texts, step_texts}
-use Rattle.tk_bind.specs.Scope.{has_finally_head, is_in, is_status, is_target_visible, is_visible}
+use Rattle.tk_types.specs.Names.{is_in}
+use Rattle.tk_bind.specs.Scope.{has_finally_head, is_status, is_target_visible, is_visible}
 use Rattle.tk_validate.specs.declared.seen.Seen.{Seen}
 use Rattle.tk_validate.specs.Seen.{given_seen, keys, step_scope, task_context}
 use Rattle.tk_validate.specs.Sited.{TextRule, in_step, in_variable}

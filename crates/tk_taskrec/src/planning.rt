@@ -206,16 +206,6 @@ fn folders_of(
     Ok(folders)
 }
 
-/// Adds copies of parameters.
-fn push_params(alloc: Global, made: &mut List<Param>, params: &[Param]) -> Result<(), AllocError>
-    ensures { OnOk result (made.new ≡ made.old ++ params.now) }
-{
-    for param in params {
-        made.push(param.copy(alloc)?)?;
-    }
-    Ok(())
-}
-
 /// The parameters of a TaskRun bound to its body, where each that the body wants has a value that suits.
 fn bound_params(alloc: Global, task_run: &TaskRunState) -> Result<Option<List<Param>>, AllocError>
     ensures { IfOk result (λ found. found ≡ bound_to_body task_run.now) }
@@ -251,7 +241,7 @@ fn plan_env(
     requires folder { folder.now ≡ folder_of task_run.now attempt }
     ensures { IfOk result (λ env. env ≡ plan_env task_run.now attempt params) }
 {
-    push_params(alloc, &mut params, task_run.binding.params.as_slice())?;
+    params.push_all(alloc, task_run.binding.params.as_slice())?;
     let mut env = step_env(alloc, &task_run.spec.body, params)?;
     env.words = plan_words(alloc, task_run, attempt, pod, folder)?;
     Ok(env)

@@ -3,7 +3,7 @@ use Rattle.std.specs.Prelude.{◌≡◌, ℕ, List, [], ◌∷◌, length, Optio
 use Rattle.tk_types.specs.declared.object.Asked.{Asked}
 use Rattle.tk_types.specs.declared.object.Asked.TheVariants as asks
 use Rattle.tk_types.specs.declared.scenario.Kind.TheVariants as kinds
-use Rattle.tk_verdict.specs.Facts.{level_of}
+use Rattle.tk_types.specs.Behaviour.{level_of}
 use Rattle.tk_journal.specs.declared.act.Act.TheVariants as acts
 use Rattle.tk_journal.specs.declared.entry.Actor.TheVariants as actors
 use Rattle.tk_journal.specs.declared.entry.Entry.{Entry}

@@ -1,6 +1,6 @@
 ghost use Rattle.std.specs.Prelude.{◌≡◌, Some, None};
 ghost use Rattle.tk_journal.specs.Stops.{asked_level};
-ghost use Rattle.tk_verdict.specs.Facts.{level_of};
+ghost use Rattle.tk_types.specs.Behaviour.{level_of};
 ghost use Rattle.tk_user.specs.Ask.{greatest, top_level, is_higher, run_refusal, task_run_refusal};
 
 use crate::answer::AskAnswer;

@@ -7,8 +7,8 @@ use Rattle.std.proofs.lemmas.Bool.{false≢true}
 use Rattle.std.proofs.lemmas.Slice.Eq.{bytes_eq-Decides}
 use Rattle.tk_types.specs.declared.value.ParamType.{ParamType}
 use Rattle.tk_types.specs.declared.value.ParamType.TheVariants.{Str as string, Arr as array, Obj as object}
-use Rattle.tk_bind.specs.Scope.{is_in}
-use Rattle.tk_bind.proofs.FirstFound.{bytes_eq-swap}
+use Rattle.tk_types.specs.Names.{is_in}
+use Rattle.tk_types.proofs.FirstFound.{bytes_eq-swap}
 use Rattle.tk_validate.specs.declared.seen.Seen.{Seen}
 use Rattle.tk_validate.specs.Agreed.{agrees_with, differs}
 use Rattle.tk_validate.specs.Seen.{agreed, is_kind, is_of_name, kind_seen, seen}

@@ -14,7 +14,7 @@ use Rattle.tk_types.specs.Place.{Place, ◌▸◌}
 use Rattle.tk_graph.specs.Parents.{parent_names}
 use Rattle.tk_graph.specs.Results.{guards_texts, matrix_texts, params_texts, result_tasks, text_tasks}
 use Rattle.tk_graph.specs.Unknown.{is_known}
-use Rattle.tk_bind.specs.Scope.{is_in}
+use Rattle.tk_types.specs.Names.{is_in}
 use Rattle.tk_validate.specs.declared.seen.Seen.{Seen}
 use Rattle.tk_validate.specs.Finally.{names_either, names_no, pipeline_obeys, refused_in_own, runs_free, steps_name_neither, task_obeys}
 use Rattle.tk_validate.specs.Names.{names_of}

@@ -19,7 +19,8 @@ use Rattle.tk_graph.specs.Unknown.{is_known}
 use Rattle.tk_graph.proofs.ResultTasks.{part_task-is}
 use Rattle.tk_bind.specs.declared.scope.Scope.{Scope}
 use Rattle.tk_bind.specs.Check.{first_failing}
-use Rattle.tk_bind.specs.Scope.{is_in, is_visible, is_well_typed}
+use Rattle.tk_types.specs.Names.{is_in}
+use Rattle.tk_bind.specs.Scope.{is_visible, is_well_typed}
 use Rattle.tk_validate.specs.Finally.{names_either, names_no, names_result_of, names_status, refused_in_own}
 use Rattle.tk_validate.specs.Named.{read_references}
 use Rattle.tk_validate.specs.Names.{names_of}

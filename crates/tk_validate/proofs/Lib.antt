@@ -1,19 +1,18 @@
+pub mod AgreedKinds
 mod EachText
 mod Examples
 mod FewTasks
 mod FirstNone
+pub mod Firsts
 mod GoodTexts
 mod InOrder
 mod KnownParents
 mod KnownTasks
-mod NameAdded
-mod OwnPipeline
-mod TasksDiffer
-mod ValidPipeline
-mod ValidReads
-pub mod AgreedKinds
-pub mod Firsts
 pub mod NoTask
+mod OwnPipeline
 pub mod PiecesFinding
 pub mod SeenNames
 pub mod StepWords
+mod TasksDiffer
+mod ValidPipeline
+mod ValidReads

@@ -14,7 +14,8 @@ use Rattle.tk_vars.specs.Target.{references_of}
 use Rattle.tk_vars.specs.Task.{heads_task, names_task}
 use Rattle.tk_graph.specs.Tasks.{part_task}
 use Rattle.tk_graph.proofs.NoTask.{no_part_task, or_first, or_second}
-use Rattle.tk_bind.specs.Scope.{is_in, is_status}
+use Rattle.tk_types.specs.Names.{is_in}
+use Rattle.tk_bind.specs.Scope.{is_status}
 use Rattle.tk_validate.specs.Conflicts.{if_in, taken_in_part, takes_whole}
 use Rattle.tk_validate.specs.Finally.{names_no, names_result_of, refused_in_own}
 use Rattle.tk_validate.specs.Named.{read_references}

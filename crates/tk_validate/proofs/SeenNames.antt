@@ -9,8 +9,9 @@ use Rattle.std.proofs.lemmas.Bool.{cases_Bool}
 use Rattle.tk_types.specs.declared.value.ParamSpec.{ParamSpec}
 use Rattle.tk_types.specs.declared.value.ParamType.{ParamType}
 use Rattle.tk_vars.specs.declared.part.Part.{Part}
-use Rattle.tk_bind.specs.Scope.{is_in, declared, suits}
-use Rattle.tk_bind.proofs.FirstFound.{bytes_eq-swap}
+use Rattle.tk_types.specs.Names.{is_in}
+use Rattle.tk_bind.specs.Scope.{declared, suits}
+use Rattle.tk_types.proofs.FirstFound.{bytes_eq-swap}
 use Rattle.tk_validate.specs.declared.seen.Seen.{Seen}
 use Rattle.tk_validate.specs.Seen.{is_of_name, kind_seen, typed_of, untyped_of}
 

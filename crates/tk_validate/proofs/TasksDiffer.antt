@@ -12,7 +12,7 @@ use Rattle.tk_types.specs.declared.object.PipelineSpec.{PipelineSpec}
 use Rattle.tk_types.specs.Fault.{duplicate}
 use Rattle.tk_types.specs.First.{Finding, first_if_there}
 use Rattle.tk_types.specs.Place.{Place, ◌▸◌, ◌#◌}
-use Rattle.tk_bind.specs.Scope.{is_in}
+use Rattle.tk_types.specs.Names.{is_in}
 use Rattle.tk_validate.specs.Names.{differ_from, names_before, names_of, pipeline_names, task_names, tasks_differ, told_before}
 use Rattle.tk_validate.proofs.FirstNone.{first_none, rest_none, not_refused}
 use Rattle.tk_validate.proofs.InOrder.{entry_finding, found_from}

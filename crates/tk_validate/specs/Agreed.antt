@@ -1,7 +1,7 @@
 -- On the way to the types on which all entries of a name agree: those of the first of each name.
 use Rattle.std.specs.Prelude.{ℕ, Bool, true, not, ◌&&◌, List, find}
 use Rattle.std.specs.Option.{option_map_or}
-use Rattle.tk_bind.specs.Scope.{is_in}
+use Rattle.tk_types.specs.Names.{is_in}
 use Rattle.tk_validate.specs.declared.seen.Seen.{Seen}
 use Rattle.tk_validate.specs.Seen.{is_kind, is_of_name, kind_seen}
 

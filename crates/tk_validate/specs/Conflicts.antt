@@ -15,7 +15,7 @@ use Rattle.tk_types.specs.Value.{value_named}
 use Rattle.tk_vars.specs.declared.reference.Reference.{Reference}
 use Rattle.tk_vars.specs.Reading.{ends_with_star}
 use Rattle.tk_graph.specs.Tasks.{part_task}
-use Rattle.tk_bind.specs.Scope.{is_in}
+use Rattle.tk_types.specs.Names.{is_in}
 use Rattle.tk_validate.specs.Parts.{RuleOn, on_pipeline, on_each_task}
 use Rattle.tk_validate.specs.Named.{read_references, whole_read}
 use Rattle.tk_validate.specs.Names.{names_of}

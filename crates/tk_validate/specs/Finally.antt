@@ -13,7 +13,8 @@ use Rattle.tk_types.specs.First.{first_of, refused_if}
 use Rattle.tk_types.specs.Lists.{is_empty}
 use Rattle.tk_vars.specs.declared.reference.Reference.{Reference}
 use Rattle.tk_graph.specs.Tasks.{part_task}
-use Rattle.tk_bind.specs.Scope.{is_in, is_status}
+use Rattle.tk_types.specs.Names.{is_in}
+use Rattle.tk_bind.specs.Scope.{is_status}
 use Rattle.tk_validate.specs.Parts.{RuleOn, on_pipeline, on_task_spec, on_inlined, on_each_task}
 use Rattle.tk_validate.specs.Named.{read_references}
 use Rattle.tk_validate.specs.Names.{names_of}

@@ -18,7 +18,7 @@ use Rattle.tk_types.specs.declared.object.PipelineSpec.{PipelineSpec}
 use Rattle.tk_types.specs.Fault.{duplicate}
 use Rattle.tk_types.specs.Place.{◌▸◌, ◌#◌}
 use Rattle.tk_types.specs.First.{first_of, first_in, first_if_there, refused_if}
-use Rattle.tk_bind.specs.Scope.{is_in}
+use Rattle.tk_types.specs.Names.{is_in}
 use Rattle.tk_validate.specs.Parts.{RuleOn, on_pipeline, on_task_spec, on_inlined}
 
 -- the name is one of these

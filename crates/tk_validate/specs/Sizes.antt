@@ -6,18 +6,10 @@ use Rattle.tk_types.specs.declared.object.ItemObject.{ItemObject}
 use Rattle.tk_types.specs.declared.object.ItemObject.TheVariants.{TaskRun}
 use Rattle.tk_types.specs.declared.object.PipelineSpec.{PipelineSpec}
 use Rattle.tk_types.specs.Fault.{too_large}
+use Rattle.tk_types.specs.Limits.{most_retries, most_steps, most_tasks}
 use Rattle.tk_types.specs.Place.{Place, ◌▸◌}
 use Rattle.tk_types.specs.First.{Finding, first_of, refused_if}
 use Rattle.tk_validate.specs.Parts.{RuleOn, on_pipeline, on_task_spec, on_inlined, on_each_task}
-
-abbrev pub most_tasks : ℕ
-most_tasks = 5000
-
-abbrev pub most_steps : ℕ
-most_steps = 32
-
-abbrev pub most_retries : ℕ
-most_retries = 100
 
 -- the count is over the limit
 abbrev pub over : ℕ → Place → ℕ → Finding

@@ -15,7 +15,8 @@ use Rattle.tk_vars.specs.Target.{references_of}
 use Rattle.tk_graph.specs.Tasks.{part_task}
 use Rattle.tk_bind.specs.declared.scope.Scope.{Scope}
 use Rattle.tk_bind.specs.Check.{first_failing}
-use Rattle.tk_bind.specs.Scope.{is_in, is_visible, is_well_typed, status_task}
+use Rattle.tk_types.specs.Names.{is_in}
+use Rattle.tk_bind.specs.Scope.{is_visible, is_well_typed, status_task}
 use Rattle.tk_validate.specs.declared.seen.Seen.{Seen}
 use Rattle.tk_validate.specs.Parts.{RuleOn, on_pipeline, on_task_spec, on_inlined, on_each_task, given_params}
 use Rattle.tk_validate.specs.Names.{names_of}

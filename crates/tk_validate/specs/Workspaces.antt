@@ -8,7 +8,7 @@ use Rattle.tk_types.specs.declared.object.PipelineSpec.{PipelineSpec}
 use Rattle.tk_types.specs.Fault.{bad_choice}
 use Rattle.tk_types.specs.Place.{◌▸◌}
 use Rattle.tk_types.specs.First.{first_in, refused_if}
-use Rattle.tk_bind.specs.Scope.{is_in}
+use Rattle.tk_types.specs.Names.{is_in}
 use Rattle.tk_validate.specs.Parts.{RuleOn, on_pipeline, on_each_task}
 
 abbrev pub names_of_spaces : List SpaceSpec → List (List ℕ)

@@ -8,6 +8,7 @@ ghost use Rattle.tk_types.specs.declared.task.PipelineTask.{PipelineTask};
 ghost use Rattle.tk_graph.specs.Parents.{parent_names, IsAcyclic};
 ghost use Rattle.tk_graph.specs.Unknown.{is_known};
 ghost use Rattle.tk_bind.specs.Readings.{ReadsObject};
+ghost use Rattle.tk_types.specs.Limits.{most_tasks};
 ghost use Rattle.tk_validate.specs.Parts.{own_pipeline};
 ghost use Rattle.tk_validate.specs.Validate.{item_fault};
 
@@ -28,7 +29,7 @@ pub fn valid_pipeline()
     ensures few { (item : Item) (pipeline : PipelineSpec)
         → own_pipeline item.object ≡ Some pipeline
         → item_fault item ≡ None
-        → length pipeline.tasks + length pipeline.finally ≤ 5000 }
+        → length pipeline.tasks + length pipeline.finally ≤ most_tasks }
     ensures names { (item : Item) (pipeline : PipelineSpec)
         → own_pipeline item.object ≡ Some pipeline
         → item_fault item ≡ None

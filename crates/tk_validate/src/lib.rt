@@ -6,7 +6,6 @@
 #![tactic(auto)]
 
 pub mod laws;
-mod name_set;
 mod named;
 mod parts;
 mod rule;
@@ -15,7 +14,7 @@ mod seen;
 mod sited;
 mod validating;
 
-pub use rule::{Checked, Rule, check_all, check_each, check_there, told};
+pub use rule::{Checked, Rule, check_all, check_each, check_there};
 pub use rules::conflicts::check_conflicts;
 pub use rules::cycle::check_cycles;
 pub use rules::finally::check_finally;

@@ -6,8 +6,7 @@ ghost use Rattle.tk_types.specs.Place.{◌▸◌};
 ghost use Rattle.tk_types.specs.Rejected.{IsRefusal, Reads};
 
 use std::alloc::{AllocError, Global};
-use tk_fields::{Location, place_at};
-use tk_types::{Detail, Fault, List, Rejected, Text};
+use tk_types::{Detail, Fault, List, Location, Rejected, Text, place_at};
 
 /// What a rule returns: that nothing is wrong, or what is wrong first. The only other error is want of memory.
 pub type Checked = Result<(), Rejected>;
@@ -68,38 +67,5 @@ pub fn check_there<P, R: Rule<P>>(
     match part {
         Some(part) => rule.check(alloc, part, &place.key(key)),
         None => Ok(()),
-    }
-}
-
-/// A fault with what it tells.
-pub fn told(alloc: Global, number: u8, place: &Location<'_>, detail: Detail) -> Rejected
-    ensures { IsRefusal (Some (fault number place.now detail)) result }
-{
-    match place_at(alloc, place) {
-        Ok(place) => Rejected::Fault(Fault {
-            number,
-            place,
-            detail,
-        }),
-        Err(_) => Rejected::Memory,
-    }
-}
-
-/// A detail of one name.
-fn one_name(alloc: Global, name: &str) -> Result<Detail, AllocError>
-    ensures { IfOk result (λ detail. detail ≡ NamesTold (name.now ∷ [])) }
-{
-    let mut names = List::new(alloc);
-    names.push(Text::from_str(alloc, name)?)?;
-    Ok(Detail::Names(names))
-}
-
-/// A fault about one name.
-pub(crate) fn told_name(alloc: Global, number: u8, place: &Location<'_>, name: &str) -> Rejected
-    ensures { IsRefusal (Some (fault number place.now (NamesTold (name.now ∷ [])))) result }
-{
-    match one_name(alloc, name) {
-        Ok(detail) => told(alloc, number, place, detail),
-        Err(_) => Rejected::Memory,
     }
 }

@@ -8,8 +8,7 @@ pub(crate) mod scope;
 pub(crate) mod task_seen;
 
 use std::alloc::{AllocError, Global};
-use tk_bind::{FirstNamed, Named};
-use tk_types::{ParamType, Text, TryCopy};
+use tk_types::{FirstNamed, Named, ParamType, Text, TryCopy};
 
 /// A parameter that texts see, with its type where that is known.
 #[derive(Drop)]

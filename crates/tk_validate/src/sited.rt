@@ -5,8 +5,7 @@ ghost use Rattle.tk_validate.specs.Sited.{in_guard, in_matrix, in_pair, in_param
 
 use crate::rule::{Checked, Rule, check_all, check_each, check_there};
 use std::alloc::Global;
-use tk_fields::Location;
-use tk_types::{List, Matrix, Pair, Param, Step, TaskSpec, Text, Value, When};
+use tk_types::{List, Location, Matrix, Pair, Param, Step, TaskSpec, Text, Value, When};
 
 /// A rule on texts in which references are substituted.
 pub(crate) trait TextRule {

@@ -14,8 +14,7 @@ use crate::rules::timeouts::check_timeouts;
 use crate::rules::types::check_types;
 use crate::rules::workspaces::check_workspaces;
 use std::alloc::Global;
-use tk_fields::Location;
-use tk_types::{Item, ItemObject};
+use tk_types::{Item, ItemObject, Location};
 
 /// Refuses an object whose spec stands at a place, by the rules in their order.
 fn check_object(alloc: Global, object: &ItemObject, place: &Location<'_>) -> Checked

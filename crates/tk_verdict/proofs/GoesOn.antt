@@ -26,7 +26,8 @@ use Rattle.tk_graph.specs.Parents.{parents, IsAcyclic}
 use Rattle.tk_bind.specs.declared.env.Env.{Env}
 use Rattle.tk_verdict.specs.Bindings.{fits_at, guards_in, combinations_in, is_broken, is_refused, has_no_combination}
 use Rattle.tk_verdict.specs.Condition.{condition_of, finished, false_with}
-use Rattle.tk_verdict.specs.Facts.{all_tasks, task_total, children_of, is_running, has_ended, all_ended, is_good, level_of, first_stop, first_late_stop}
+use Rattle.tk_types.specs.Behaviour.{level_of}
+use Rattle.tk_verdict.specs.Facts.{all_tasks, task_total, children_of, is_running, has_ended, all_ended, is_good, first_stop, first_late_stop}
 use Rattle.tk_verdict.specs.Gives.{label_of, first_labels, Gives, to_task, to_final}
 use Rattle.tk_verdict.specs.Labels.{finally_line, labels_of, labelled_parents, label_by, bindings_in, bindings_at, ready_bindings}
 use Rattle.tk_verdict.specs.Progress.{AllDone, SomeReady, HasBadChild, IsFailing}

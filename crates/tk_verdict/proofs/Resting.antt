@@ -11,7 +11,8 @@ use Rattle.tk_types.specs.declared.run.Child.{Child}
 use Rattle.tk_types.specs.declared.run.Outcome.{Outcome}
 use Rattle.tk_types.specs.declared.run.Stop.{Stop}
 use Rattle.tk_types.specs.declared.verdict.Verdict.TheVariants.{Ready}
-use Rattle.tk_verdict.specs.Facts.{children_at, children_of, is_running, has_ended, level_of, first_stop, first_late_stop}
+use Rattle.tk_types.specs.Behaviour.{level_of}
+use Rattle.tk_verdict.specs.Facts.{children_at, children_of, is_running, has_ended, first_stop, first_late_stop}
 use Rattle.tk_verdict.specs.Gives.{label_of}
 use Rattle.tk_verdict.specs.Moves.{IsLater, KeepOutcomes, Moves, by_outcomes, by_stop, by_children}
 

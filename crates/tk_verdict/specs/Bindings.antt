@@ -3,6 +3,7 @@ use Rattle.std.specs.Prelude.{ℕ, Bool, false, not, ◌||◌, if◌then◌else�
 use Rattle.std.specs.List.{list_all}
 use Rattle.std.specs.Option.{option_map_or}
 use Rattle.std.specs.Result.{result_ok}
+use Rattle.tk_types.specs.Limits.{most_combinations}
 use Rattle.tk_types.specs.declared.value.Param.{Param}
 use Rattle.tk_types.specs.declared.task.Matrix.{Matrix}
 use Rattle.tk_types.specs.declared.task.PipelineTask.{PipelineTask}
@@ -30,7 +31,7 @@ guards_in env task = all_some (map (guard_in env) task.when)
 
 -- the combinations of a task, where they are at most 256
 abbrev pub few_combinations : List Param → Option Matrix → Option (List (List Param))
-few_combinations own matrix = if nat_le (task_combination_count matrix) 256 then Some (task_combinations own matrix) else None
+few_combinations own matrix = if nat_le (task_combination_count matrix) most_combinations then Some (task_combinations own matrix) else None
 
 abbrev pub combinations_in : Env → PipelineTask → Option (List (List Param))
 combinations_in env task = option_and_then (λ own. option_and_then (few_combinations own) (matrix_in env task.matrix)) (params_in env task.params)

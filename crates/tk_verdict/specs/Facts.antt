@@ -8,7 +8,7 @@ use Rattle.tk_types.specs.declared.run.Child.{Child}
 use Rattle.tk_types.specs.declared.run.Outcome.{Outcome}
 use Rattle.tk_types.specs.declared.run.Outcome.TheVariants.{Succeeded, Failed, TimedOut, Cancelled, Lost}
 use Rattle.tk_types.specs.declared.run.Stop.{Stop}
-use Rattle.tk_types.specs.declared.run.Stop.TheVariants.{Failure, StoppedRunFinally, CancelledRunFinally, TasksTimeout, FinallyTimeout, Cancelled as CancelledStop, PipelineTimeout}
+use Rattle.tk_types.specs.Behaviour.{level_of}
 use Rattle.tk_types.specs.Lists.{is_empty}
 
 -- a task is named by its place: those of `tasks` first, then those of `finally`
@@ -58,16 +58,6 @@ is_good task outcome = is_good_where task.ignore_failure outcome
 -- there are children, and all of them passed the test
 abbrev pub all_ended : (Outcome → Bool) → List Child → Bool
 all_ended test children = not (is_empty children) && list_all (has_ended test) children
-
--- how far a stop goes: 1 keeps children, 2 stops those of `tasks`, 3 those of `finally` too, 4 all
-abbrev pub level_of : Stop → ℕ
-level_of Failure = 1
-level_of StoppedRunFinally = 1
-level_of CancelledRunFinally = 2
-level_of TasksTimeout = 2
-level_of FinallyTimeout = 3
-level_of CancelledStop = 4
-level_of PipelineTimeout = 4
 
 -- the first stop that is recorded, and the first that reaches `finally`
 abbrev pub first_stop : Facts → Option Stop

@@ -14,8 +14,8 @@ use crate::groups::Groups;
 use crate::outcome::ended_well;
 use crate::sorted::by_index;
 use std::alloc::{AllocError, Global};
-use tk_bind::{FirstNamed, Given};
-use tk_types::{Child, Facts, List, Param, PipelineTask, Text, TryCopy, Value};
+use tk_bind::Given;
+use tk_types::{Child, Facts, FirstNamed, List, Param, PipelineTask, Text, TryCopy, Value};
 
 /// Adds a result, where there is one.
 fn add_given(made: &mut List<Given>, given: Option<Given>) -> Result<(), AllocError>

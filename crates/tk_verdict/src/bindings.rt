@@ -147,7 +147,7 @@ pub(crate) fn ready_bindings(
     requires labels { labels.now ≡ labels_of facts.now }
     ensures { IfOk result (λ made. made ≡ bindings_of_ready facts.now labels.now task) }
 {
-    if !is_ready(label_at(labels, task)) {
+    if !is_ready(label_at(labels, task as usize)) {
         return Ok(None);
     }
     bindings_at(alloc, facts, groups, results, labels, task)

@@ -16,16 +16,6 @@ use tk_bind::{Lookup, matrix_in, params_in};
 use tk_matrix::{TooLarge, all, count};
 use tk_types::{List, Matrix, Param, PipelineTask, TryCopy, Value};
 
-/// Adds copies of parameters.
-fn push_params(alloc: Global, made: &mut List<Param>, params: &[Param]) -> Result<(), AllocError>
-    ensures { OnOk result (made.new ≡ made.old ++ params.now) }
-{
-    for param in params {
-        made.push(param.copy(alloc)?)?;
-    }
-    Ok(())
-}
-
 /// Each combination with a task's own parameters in front.
 fn with_own(
     alloc: Global,
@@ -37,8 +27,8 @@ fn with_own(
     let mut made = List::new(alloc);
     for combination in combinations {
         let mut whole = List::new(alloc);
-        push_params(alloc, &mut whole, own)?;
-        push_params(alloc, &mut whole, combination.as_slice())?;
+        whole.push_all(alloc, own)?;
+        whole.push_all(alloc, combination.as_slice())?;
         made.push(whole)?;
     }
     Ok(made)

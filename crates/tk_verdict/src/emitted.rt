@@ -2,8 +2,7 @@ ghost use Rattle.std.specs.Prelude.{◌≡◌, ◌++◌, flat_map, map, IfOk, On
 ghost use Rattle.tk_verdict.specs.Available.{emitted as results_of};
 
 use std::alloc::{AllocError, Global};
-use tk_bind::{FirstNamed, Named};
-use tk_types::{Child, Outcome, Param};
+use tk_types::{Child, FirstNamed, Named, Outcome, Param};
 
 /// The results that a child emitted.
 pub(crate) fn emitted<'a>(child: &'a Child) -> &'a [Param]

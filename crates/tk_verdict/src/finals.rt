@@ -2,7 +2,8 @@ ghost use Rattle.std.specs.Prelude.{◌≡◌, ◌<◌, ◌^◌, length, map, No
 ghost use Rattle.std.specs.List.{list_all, range_with_len};
 ghost use Rattle.tk_types.specs.declared.verdict.Verdict.TheVariants.{Ready, Waits};
 ghost use Rattle.tk_verdict.specs.Bindings.{combinations_in as combinations_of};
-ghost use Rattle.tk_verdict.specs.Facts.{children_of, first_late_stop, level_of, task_total};
+ghost use Rattle.tk_types.specs.Behaviour.{level_of};
+ghost use Rattle.tk_verdict.specs.Facts.{children_of, first_late_stop, task_total};
 ghost use Rattle.tk_verdict.specs.Gathered.{final_line, final_row as row_of_final, IsGatheredFor, IsReadable};
 ghost use Rattle.tk_verdict.specs.Labels.{label_by as label_of};
 ghost use Rattle.tk_verdict.specs.Readings.{ReadsBody, ReadsTask};

@@ -9,25 +9,23 @@ ghost use Rattle.tk_verdict.specs.Verdict.{blocks as blocks_children, is_skipped
 
 use crate::label::{blocks, is_skipped, is_skipped_by_when};
 use std::alloc::{AllocError, Global};
-use tk_bind::FirstNamed;
 use tk_graph::result_tasks;
-use tk_types::{Facts, PipelineTask, Text, Verdict};
+use tk_types::{Facts, FirstNamed, PipelineTask, Text, Verdict};
 
 /// The label at a place.
-pub fn label_at(labels: &[Verdict], place: u32) -> Verdict
+pub fn label_at(labels: &[Verdict], place: usize) -> Verdict
     ensures { result ≡ label_of_place labels.now place }
 {
-    labels
-        .get(place as usize)
-        .copied()
-        .unwrap_or(Verdict::Waits)
+    labels.get(place).copied().unwrap_or(Verdict::Waits)
 }
 
 /// Whether a parent is skipped so that its children are too.
 pub fn is_blocked(parents: &[u32], labels: &[Verdict]) -> bool
     ensures { result ≡ list_any (λ p. blocks_children (label_of_place labels.now p)) parents.now }
 {
-    parents.iter().any(|place| blocks(label_at(labels, *place)))
+    parents
+        .iter()
+        .any(|place| blocks(label_at(labels, *place as usize)))
 }
 
 /// Whether the parent at a place is good, or skipped by its own guard.
@@ -36,7 +34,7 @@ fn is_good(facts: &Facts, good: &[bool], labels: &[Verdict], place: u32) -> bool
     ensures { result ≡ is_good_parent facts.now (place, label_of_place labels.now place) }
 {
     good.get(place as usize).copied().unwrap_or(false)
-        || is_skipped_by_when(label_at(labels, place))
+        || is_skipped_by_when(label_at(labels, place as usize))
 }
 
 /// Whether all parents are good, or skipped by their own guards.
@@ -102,7 +100,7 @@ fn any_skipped(facts: &Facts, labels: &[Verdict], parents: &[u32], names: &First
     ensures { result ≡ list_any (λ p. is_skipped_label (label_of_place labels.now p) && option_map_or (λ (parent : Task). list_any (λ name. bytes_eq name parent.name) names.now) (slice_get (all_tasks facts.now) p) false) parents.now }
 {
     for place in parents {
-        if is_skipped(label_at(labels, *place)) && is_named(facts, names, *place) {
+        if is_skipped(label_at(labels, *place as usize)) && is_named(facts, names, *place) {
             return true;
         }
     }

@@ -123,8 +123,8 @@ fn push_status_words(
     ensures { OnOk result (words.new ≡ words.old ++ filter_map (word_among groups.now labels.now) (enumerate_from 0 tasks.now)) }
 {
     for (place, task) in tasks.iter().enumerate() {
-        let place = place as u32;
         let label = label_at(labels, place);
+        let place = place as u32;
         if let Some(word) = status_word(alloc, groups.at(place), label, task)? {
             words.push(word)?;
         }

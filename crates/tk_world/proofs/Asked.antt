@@ -5,7 +5,7 @@ use Rattle.std.proofs.lemmas.Bool.{cases_Bool, lt-ltb}
 use Rattle.std.proofs.lemmas.List.Elements.{All-head, All-tail}
 use Rattle.tk_types.specs.declared.object.Asked.{Asked}
 use Rattle.tk_types.specs.declared.object.Asked.TheVariants as asks
-use Rattle.tk_verdict.specs.Facts.{level_of}
+use Rattle.tk_types.specs.Behaviour.{level_of}
 use Rattle.tk_types.specs.declared.scenario.Kind.TheVariants as kinds
 use Rattle.tk_journal.specs.declared.entry.Entry.{Entry}
 use Rattle.tk_journal.specs.declared.object.RunState.{RunState}

@@ -1,4 +1,4 @@
-ghost use Rattle.std.specs.Prelude.{◌≡◌, ◌++◌, map, filter, filter_map, codes, is_some, option_map, IfOk, OnOk};
+ghost use Rattle.std.specs.Prelude.{◌≡◌, false, ◌++◌, map, filter, filter_map, codes, is_some, option_map, IfOk, OnOk};
 ghost use Rattle.tk_types.specs.First.{first_if_there, first_of};
 ghost use Rattle.tk_types.specs.Place.{◌▸◌};
 ghost use Rattle.tk_types.specs.Rejected.{Reads};
@@ -6,16 +6,16 @@ ghost use Rattle.tk_vars.specs.Target.{referenced};
 ghost use Rattle.tk_validate.specs.Conflicts.{apart, conflicts, entry_finding, include_finding, list_finding, listed, matrix_finding, matrixed, may_be_list, pipeline_conflicts, taken_in_part, takes_whole, task_conflicts};
 ghost use Rattle.tk_validate.specs.Names.{names_of};
 
-use crate::name_set::NameSet;
 use crate::named::{read, reads_no_task, whole_of};
-use crate::parts::{TaskRule, check_pipeline, check_tasks};
-use crate::rule::{Checked, Rule, check_all, told_name};
+use crate::parts::{check_pipeline, check_tasks};
+use crate::rule::{Checked, Rule, check_all};
 use crate::sited::TextRule;
 use std::alloc::{AllocError, Global};
-use tk_bind::FirstNamed;
-use tk_fields::Location;
 use tk_graph::task_of;
-use tk_types::{ItemObject, List, Matrix, Param, PipelineSpec, PipelineTask, Value};
+use tk_types::{
+    Fault, FirstNamed, ItemObject, List, Location, Matrix, NameSet, Param, PipelineSpec,
+    PipelineTask, Value, told_name,
+};
 use tk_vars::{Piece, Reference};
 
 /// The task of these of which a reference takes a result other than as `[*]`.
@@ -63,7 +63,7 @@ impl<'n, 'a> TextRule for TakesWhole<'n, 'a> {
             return Ok(());
         };
         match first_taken(self.names, pieces.as_slice()) {
-            Some(task) => Err(told_name(alloc, 18, place, task)),
+            Some(task) => Err(told_name(alloc, Fault::MATRIX_CONFLICT, place, task)),
             None => Ok(()),
         }
     }
@@ -91,7 +91,7 @@ fn check_listed(alloc: Global, param: &Param, place: &Location<'_>) -> Checked
         return Ok(());
     }
     let value = place.key("value");
-    Err(told_name(alloc, 18, &value, param.name.as_str()))
+    Err(told_name(alloc, Fault::MATRIX_CONFLICT, &value, param.name.as_str()))
 }
 
 /// Refuses a parameter of a matrix with the name of one of the task's own.
@@ -104,7 +104,7 @@ fn check_apart(
     ensures { Reads (apart own.now place.now param.now) tt result }
 {
     if own.get(param.name.as_str()).is_some() {
-        return Err(told_name(alloc, 18, place, param.name.as_str()));
+        return Err(told_name(alloc, Fault::MATRIX_CONFLICT, place, param.name.as_str()));
     }
     Ok(())
 }
@@ -176,16 +176,10 @@ fn check_matrix(
     Beside { takes, own: &own }.check(alloc, matrix, &place.key("matrix"))
 }
 
-impl<'n, 'a> TaskRule for TakesWhole<'n, 'a> {
-    ghost of_task = { λ rule. task_conflicts rule.names.now };
+impl<'n, 'a> Rule<PipelineTask> for TakesWhole<'n, 'a> {
+    ghost finding = { λ rule. task_conflicts rule.names.now false };
 
-    fn check_task(
-        &self,
-        alloc: Global,
-        _is_last: bool,
-        task: &PipelineTask,
-        place: &Location<'_>,
-    ) -> Checked {
+    fn check(&self, alloc: Global, task: &PipelineTask, place: &Location<'_>) -> Checked {
         check_all(alloc, self, task.params.as_slice(), place, "params")?;
         check_matrix(alloc, self.names, task, place)?;
         check_all(alloc, self, task.when.as_slice(), place, "when")

@@ -4,11 +4,10 @@ ghost use Rattle.tk_validate.specs.Cycle.{acyclic, cycles};
 ghost use Rattle.tk_validate.specs.Parts.{on_pipeline_source};
 ghost use Rattle.tk_validate.specs.Sizes.{pipeline_within, sizes};
 
-use crate::rule::{Checked, told};
+use crate::rule::Checked;
 use std::alloc::Global;
-use tk_fields::Location;
 use tk_graph::cycle;
-use tk_types::{Detail, ItemObject, PipelineSource, PipelineSpec};
+use tk_types::{Detail, Fault, ItemObject, Location, PipelineSource, PipelineSpec, told};
 
 /// Refuses a pipeline, within its sizes, some of whose tasks wait for themselves, and tells the names of a cycle.
 #[tactic(auto, unfolding(crate::specs::Cycle::acyclic))]
@@ -17,7 +16,12 @@ fn check_cycle(alloc: Global, spec: &PipelineSpec, place: &Location<'_>) -> Chec
     ensures { Reads (acyclic place.now spec.now) tt result }
 {
     match cycle(alloc, spec.tasks.as_slice())? {
-        Some(names) => Err(told(alloc, 13, &place.key("tasks"), Detail::Names(names))),
+        Some(names) => Err(told(
+            alloc,
+            Fault::CYCLE,
+            &place.key("tasks"),
+            Detail::Names(names),
+        )),
         None => Ok(()),
     }
 }

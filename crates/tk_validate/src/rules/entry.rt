@@ -3,9 +3,7 @@ ghost use Rattle.tk_validate.specs.Names.{nothing_inside};
 
 use crate::rule::{Checked, Rule};
 use std::alloc::Global;
-use tk_bind::Named;
-use tk_fields::Location;
-use tk_types::SpaceSpec;
+use tk_types::{Location, Named, SpaceSpec};
 
 /// A rule on the entries of a list in which no name stands twice.
 pub(crate) trait Entries<T>: Rule<T> {

@@ -1,18 +1,17 @@
 ghost use Rattle.std.specs.Prelude.{◌≡◌};
 ghost use Rattle.tk_types.specs.Rejected.{Reads};
+ghost use Rattle.tk_validate.specs.Parts.{on_each_task};
 ghost use Rattle.tk_validate.specs.Finally.{finally_rules, names_no, names_result_of, names_status, pipeline_obeys, refused_in_own, runs_free, task_obeys};
 
-use crate::name_set::NameSet;
 use crate::named::read;
-use crate::parts::{TaskRule, check_inlined, check_pipeline, check_task_spec, check_tasks};
+use crate::parts::{check_inlined, check_pipeline, check_task_spec};
 use crate::rule::{Checked, Rule, check_all, check_there};
 use crate::rules::names::names_of;
 use crate::sited::TextRule;
 use std::alloc::{AllocError, Global};
 use tk_bind::is_status;
-use tk_fields::{Location, refusal};
 use tk_graph::task_of;
-use tk_types::{ItemObject, PipelineSpec, PipelineTask};
+use tk_types::{Fault, ItemObject, Location, NameSet, PipelineSpec, PipelineTask, refusal};
 use tk_vars::{Reference, ReferenceTest, any_in_pieces, names_no_task};
 
 /// References to a status.
@@ -81,7 +80,7 @@ impl<K: ReferenceTest> TextRule for NamesNo<K> {
             return Ok(());
         };
         if any_in_pieces(alloc, &self.kind, pieces.as_slice())? {
-            return Err(refusal(alloc, 19, place));
+            return Err(refusal(alloc, Fault::FINALLY_RULE, place));
         }
         Ok(())
     }
@@ -97,7 +96,7 @@ fn check_runs_free(
     ensures { Reads (runs_free is_last place.now task.now) tt result }
 {
     match task.run_after.as_slice() {
-        [_, ..] if is_last => Err(refusal(alloc, 19, &place.key("runAfter"))),
+        [_, ..] if is_last => Err(refusal(alloc, Fault::FINALLY_RULE, &place.key("runAfter"))),
         _ => Ok(()),
     }
 }
@@ -106,22 +105,17 @@ fn check_runs_free(
 #[derive(Drop)]
 struct Obeying<'n, 'a> {
     lasts: &'n NameSet<'a>,
+    is_last: bool,
 }
 
-impl<'n, 'a> TaskRule for Obeying<'n, 'a> {
-    ghost of_task = { λ rule. task_obeys rule.lasts.now };
+impl<'n, 'a> Rule<PipelineTask> for Obeying<'n, 'a> {
+    ghost finding = { λ rule. task_obeys rule.lasts.now rule.is_last };
 
-    fn check_task(
-        &self,
-        alloc: Global,
-        is_last: bool,
-        task: &PipelineTask,
-        place: &Location<'_>,
-    ) -> Checked {
+    fn check(&self, alloc: Global, task: &PipelineTask, place: &Location<'_>) -> Checked {
         let own = NamesNo {
             kind: OfFinally {
                 lasts: self.lasts,
-                may_name_status: is_last,
+                may_name_status: self.is_last,
             },
         };
         let either = NamesNo {
@@ -133,9 +127,30 @@ impl<'n, 'a> TaskRule for Obeying<'n, 'a> {
         check_inlined(alloc, &either, &task.source, place)?;
         check_all(alloc, &own, task.params.as_slice(), place, "params")?;
         check_there(alloc, &either, &task.matrix, place, "matrix")?;
-        check_runs_free(alloc, is_last, task, place)?;
+        check_runs_free(alloc, self.is_last, task, place)?;
         check_all(alloc, &own, task.when.as_slice(), place, "when")
     }
+}
+
+/// The same of a pipeline's tasks.
+fn check_tasks(
+    alloc: Global,
+    lasts: &NameSet<'_>,
+    spec: &PipelineSpec,
+    place: &Location<'_>,
+) -> Checked
+    ensures { Reads (on_each_task (task_obeys lasts.now) place.now spec.now) tt result }
+{
+    let first = Obeying {
+        lasts,
+        is_last: false,
+    };
+    check_all(alloc, &first, spec.tasks.as_slice(), place, "tasks")?;
+    let last = Obeying {
+        lasts,
+        is_last: true,
+    };
+    check_all(alloc, &last, spec.finally.as_slice(), place, "finally")
 }
 
 /// What `finally` allows.
@@ -148,7 +163,7 @@ impl Rule<PipelineSpec> for Finally {
     #[tactic(auto, unfolding(crate::specs::Finally::pipeline_obeys))]
     fn check(&self, alloc: Global, spec: &PipelineSpec, place: &Location<'_>) -> Checked {
         let lasts = names_of(alloc, &spec.finally)?;
-        check_tasks(alloc, &Obeying { lasts: &lasts }, spec, place)?;
+        check_tasks(alloc, &lasts, spec, place)?;
         let rule = NamesNo { kind: Status };
         check_all(alloc, &rule, spec.results.as_slice(), place, "results")
     }

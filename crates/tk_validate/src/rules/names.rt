@@ -4,15 +4,13 @@ ghost use Rattle.tk_types.specs.Place.{◌▸◌};
 ghost use Rattle.tk_types.specs.Rejected.{Reads};
 ghost use Rattle.tk_validate.specs.Names.{bindings_differ, differ, differ_from, duplicates, env_differs, matrix_names, names_of, params_differ, pipeline_names, task_names, task_spec_names, told_before};
 
-use crate::name_set::NameSet;
 use crate::parts::{check_inlined, check_pipeline, check_task_spec};
-use crate::rule::{Checked, Rule, check_all, check_there, told_name};
+use crate::rule::{Checked, Rule, check_all, check_there};
 use crate::rules::entry::{Entries, Nothing, Spaces};
 use std::alloc::{AllocError, Global};
-use tk_bind::Named;
-use tk_fields::Location;
 use tk_types::{
-    ItemObject, List, Matrix, Param, PipelineSpec, PipelineTask, Space, Step, TaskSpec,
+    Fault, ItemObject, List, Location, Matrix, NameSet, Named, Param, PipelineSpec, PipelineTask,
+    Space, Step, TaskSpec, told_name,
 };
 
 /// Adds a name, if there is one, and refuses one that is there.
@@ -26,7 +24,7 @@ fn add_name<'a>(
     ensures added { OnOk result (names.new ≡ names.old ++ option_to_list (option_map (λ n. n.now) name.entry)) }
 {
     match name {
-        Some(name) if names.add(name)? => Err(told_name(alloc, 9, place, name)),
+        Some(name) if names.add(name)? => Err(told_name(alloc, Fault::DUPLICATE, place, name)),
         _ => Ok(()),
     }
 }

@@ -1,18 +1,26 @@
+ghost use Rattle.std.specs.Prelude.{false};
 ghost use Rattle.tk_types.specs.Rejected.{Reads};
 ghost use Rattle.tk_validate.specs.Sizes.{over, pipeline_within, retries_within, sizes, steps_within, task_within};
 
-use crate::parts::{TaskRule, check_inlined, check_pipeline, check_task_spec, check_tasks};
-use crate::rule::{Checked, Rule, told};
+use crate::parts::{check_inlined, check_pipeline, check_task_spec, check_tasks};
+use crate::rule::{Checked, Rule};
 use std::alloc::Global;
-use tk_fields::Location;
-use tk_types::{Detail, ItemObject, PipelineSpec, PipelineTask, TaskSpec};
+use tk_types::{
+    Detail, Fault, ItemObject, Location, MOST_RETRIES, MOST_STEPS, MOST_TASKS, PipelineSpec,
+    PipelineTask, TaskSpec, told,
+};
 
 /// Refuses a count over its limit.
 fn check_count(alloc: Global, limit: u64, count: u64, place: &Location<'_>) -> Checked
     ensures { Reads (over limit place.now count) tt result }
 {
     if count > limit {
-        return Err(told(alloc, 21, place, Detail::Sizes { limit, count }));
+        return Err(told(
+            alloc,
+            Fault::TOO_LARGE,
+            place,
+            Detail::Sizes { limit, count },
+        ));
     }
     Ok(())
 }
@@ -21,7 +29,12 @@ fn check_count(alloc: Global, limit: u64, count: u64, place: &Location<'_>) -> C
 fn check_retries(alloc: Global, retries: u32, place: &Location<'_>) -> Checked
     ensures { Reads (retries_within place.now retries) tt result }
 {
-    check_count(alloc, 100, retries as u64, &place.key("retries"))
+    check_count(
+        alloc,
+        u64::from(MOST_RETRIES),
+        retries as u64,
+        &place.key("retries"),
+    )
 }
 
 /// What is too large: more than 32 steps, 100 retries, or 5,000 tasks, those of `finally` too.
@@ -32,20 +45,19 @@ impl Rule<TaskSpec> for Sizes {
     ghost finding = { λ rule. steps_within };
 
     fn check(&self, alloc: Global, spec: &TaskSpec, place: &Location<'_>) -> Checked {
-        check_count(alloc, 32, spec.steps.len() as u64, &place.key("steps"))
+        check_count(
+            alloc,
+            MOST_STEPS as u64,
+            spec.steps.len() as u64,
+            &place.key("steps"),
+        )
     }
 }
 
-impl TaskRule for Sizes {
-    ghost of_task = { λ rule. task_within };
+impl Rule<PipelineTask> for Sizes {
+    ghost finding = { λ rule. task_within false };
 
-    fn check_task(
-        &self,
-        alloc: Global,
-        _is_last: bool,
-        task: &PipelineTask,
-        place: &Location<'_>,
-    ) -> Checked {
+    fn check(&self, alloc: Global, task: &PipelineTask, place: &Location<'_>) -> Checked {
         check_inlined(alloc, self, &task.source, place)?;
         check_retries(alloc, task.retries, place)
     }
@@ -57,7 +69,7 @@ impl Rule<PipelineSpec> for Sizes {
     #[tactic(auto, unfolding(crate::specs::Sizes::pipeline_within))]
     fn check(&self, alloc: Global, spec: &PipelineSpec, place: &Location<'_>) -> Checked {
         let count = spec.tasks.as_slice().len() as u64 + spec.finally.as_slice().len() as u64;
-        check_count(alloc, 5000, count, &place.key("tasks"))?;
+        check_count(alloc, MOST_TASKS as u64, count, &place.key("tasks"))?;
         check_tasks(alloc, self, spec, place)
     }
 }

@@ -6,17 +6,14 @@ ghost use Rattle.tk_validate.specs.Seen.{declared_seen, keys};
 ghost use Rattle.tk_validate.specs.Sited.{in_steps};
 ghost use Rattle.tk_validate.specs.Texts.{step_texts, text_finding};
 
-use crate::name_set::NameSet;
 use crate::rule::{Checked, Rule};
 use crate::rules::text_rule::InScope;
 use crate::seen::Seen;
 use crate::seen::layers::Layers;
 use crate::seen::outside::add_declared;
-use crate::seen::scope::Names;
+use crate::seen::scope::LayeredNames;
 use std::alloc::{AllocError, Global};
-use tk_bind::FirstNamed;
-use tk_fields::Location;
-use tk_types::{List, ResultSpec, SpaceSpec, TaskSpec, Text};
+use tk_types::{FirstNamed, List, Location, NameSet, ResultSpec, SpaceSpec, TaskSpec, Text};
 
 /// A name with a text in front of it and one behind.
 fn name_around(alloc: Global, front: &str, name: &Text, end: &str) -> Result<Text, AllocError>
@@ -81,7 +78,7 @@ fn own_seen(alloc: Global, spec: &TaskSpec) -> Result<List<Seen>, AllocError>
 /// Refuses the first text of a Task's steps with which something is wrong, by what they may name.
 fn check_named<'x>(
     alloc: Global,
-    names: &'x Names<'_, '_, '_, '_, '_, '_>,
+    names: &'x LayeredNames<'_, '_, '_, '_, '_, '_>,
     firsts: &'x NameSet<'_>,
     spec: &TaskSpec,
     place: &Location<'_>,
@@ -109,7 +106,7 @@ fn check_indexed<'x>(
     let paths = FirstNamed::new(alloc, paths)?;
     let none = NameSet::new(alloc);
     let layers = Layers::new(&inner, &*middle, &*outer);
-    let names = Names {
+    let names = LayeredNames {
         seen: layers,
         words: &words,
         paths: &paths,

@@ -1,4 +1,4 @@
-ghost use Rattle.std.specs.Prelude.{◌≡◌, Some, None, IfOk, IfErr, OnOk, filter_map, map, not, option_map};
+ghost use Rattle.std.specs.Prelude.{◌≡◌, Some, None, IfOk, IfErr, OnOk, filter_map, map, option_map};
 ghost use Rattle.tk_types.specs.declared.fault.Detail.TheVariants.{Reference as ReferenceTold};
 ghost use Rattle.tk_types.specs.Fault.{bad_reference, fault};
 ghost use Rattle.tk_types.specs.First.{first_of};
@@ -6,72 +6,36 @@ ghost use Rattle.tk_types.specs.Rejected.{IsRefusal, Reads};
 ghost use Rattle.tk_vars.specs.Offset.{bad_offset};
 ghost use Rattle.tk_vars.specs.Reading.{pieces_of};
 ghost use Rattle.tk_vars.specs.Target.{referenced};
-ghost use Rattle.tk_bind.specs.Scope.{is_visible, is_well_typed};
 ghost use Rattle.tk_validate.specs.Scoped.{pieces_finding};
 ghost use Rattle.tk_validate.specs.Texts.{text_finding, unknown_of};
 
-use crate::name_set::NameSet;
-use crate::rule::{Checked, told, told_name};
-use crate::seen::scope::Names;
+use crate::rule::Checked;
+use crate::seen::scope::LayeredNames;
 use crate::sited::TextRule;
-use std::alloc::{AllocError, Global};
-use tk_fields::{Location, refusal};
-use tk_types::{Detail, Rejected, Text};
+use std::alloc::Global;
+use tk_bind::{first_mistyped, first_unseen};
+use tk_types::{Detail, Fault, Location, NameSet, Rejected, Text, refusal, told, told_name};
 use tk_vars::laws::one_bad_offset;
-use tk_vars::{
-    Piece, Pieces, Reference, ReferenceTest, ScanError, first_reference, is_plain, scan,
-};
+use tk_vars::{Piece, Pieces, ScanError, is_plain, scan};
 
 /// A fault about a reference to what isn't there.
 fn told_unknown(alloc: Global, place: &Location<'_>, spelling: &str) -> Rejected
     ensures { IsRefusal (Some (fault 15 place.now (ReferenceTold spelling.now))) result }
 {
     match Text::from_str(alloc, spelling) {
-        Ok(reference) => told(alloc, 15, place, Detail::Reference(reference)),
+        Ok(reference) => told(
+            alloc,
+            Fault::UNKNOWN_VARIABLE,
+            place,
+            Detail::Reference(reference),
+        ),
         Err(_) => Rejected::Memory,
-    }
-}
-
-/// References to what isn't in a scope.
-#[derive(Drop)]
-struct Unseen<'s, 'l, 'i, 'm, 'o, 'w, 't> {
-    names: &'s Names<'l, 'i, 'm, 'o, 'w, 't>,
-}
-
-impl<'s, 'l, 'i, 'm, 'o, 'w, 't> ReferenceTest for Unseen<'s, 'l, 'i, 'm, 'o, 'w, 't> {
-    ghost is_met = { λ test r. not (is_visible test.names.now r) };
-
-    fn passes_over(&self, text: &str) -> bool {
-        is_plain(text)
-    }
-
-    fn meets(&self, alloc: Global, reference: &Reference<'_>) -> Result<bool, AllocError> {
-        Ok(!self.names.is_visible(alloc, reference)?)
-    }
-}
-
-/// References that aren't used by their types.
-#[derive(Drop)]
-struct Mistyped<'s, 'l, 'i, 'm, 'o, 'w, 't> {
-    names: &'s Names<'l, 'i, 'm, 'o, 'w, 't>,
-    whole: bool,
-}
-
-impl<'s, 'l, 'i, 'm, 'o, 'w, 't> ReferenceTest for Mistyped<'s, 'l, 'i, 'm, 'o, 'w, 't> {
-    ghost is_met = { λ test r. not (is_well_typed test.names.now test.whole r) };
-
-    fn passes_over(&self, text: &str) -> bool {
-        is_plain(text)
-    }
-
-    fn meets(&self, alloc: Global, reference: &Reference<'_>) -> Result<bool, AllocError> {
-        Ok(!self.names.is_well_typed(alloc, self.whole, reference)?)
     }
 }
 
 /// The first task that some pieces name and that isn't there.
 fn first_unknown_task<'p, 't>(
-    names: &Names<'_, '_, '_, '_, '_, '_>,
+    names: &LayeredNames<'_, '_, '_, '_, '_, '_>,
     firsts: &NameSet<'_>,
     pieces: &'p [Piece<'t>],
 ) -> Option<&'p str>
@@ -90,7 +54,7 @@ fn first_unknown_task<'p, 't>(
 /// Refuses what is wrong first with the references of some pieces.
 fn check_pieces(
     alloc: Global,
-    names: &Names<'_, '_, '_, '_, '_, '_>,
+    names: &LayeredNames<'_, '_, '_, '_, '_, '_>,
     firsts: &NameSet<'_>,
     whole: bool,
     pieces: &[Piece<'_>],
@@ -98,14 +62,14 @@ fn check_pieces(
 ) -> Checked
     ensures { Reads (pieces_finding firsts.now names.now whole pieces.now place.now) tt result }
 {
-    if let Some(reference) = first_reference(alloc, &Unseen { names }, pieces)? {
+    if let Some(reference) = first_unseen(alloc, names, pieces)? {
         return Err(told_unknown(alloc, place, reference.spelling.as_str()));
     }
     if let Some(task) = first_unknown_task(names, firsts, pieces) {
-        return Err(told_name(alloc, 12, place, task));
+        return Err(told_name(alloc, Fault::UNKNOWN_TASK, place, task));
     }
-    if let Some(_) = first_reference(alloc, &Mistyped { names, whole }, pieces)? {
-        return Err(refusal(alloc, 16, place));
+    if let Some(_) = first_mistyped(alloc, names, whole, pieces)? {
+        return Err(refusal(alloc, Fault::WRONG_TYPE, place));
     }
     Ok(())
 }
@@ -120,7 +84,7 @@ fn scanned<'t>(alloc: Global, text: &'t str, place: &Location<'_>) -> Result<Pie
     match scan(alloc, text) {
         Ok(pieces) => Ok(pieces),
         Err(ScanError::BadReference { offset }) => {
-            Err(told(alloc, 14, place, Detail::Offset(offset)))
+            Err(told(alloc, Fault::BAD_REFERENCE, place, Detail::Offset(offset)))
         }
         Err(ScanError::Memory) => Err(Rejected::Memory),
     }
@@ -129,7 +93,7 @@ fn scanned<'t>(alloc: Global, text: &'t str, place: &Location<'_>) -> Result<Pie
 /// Texts that have a reading, name what they may, and use it by its type.
 #[derive(Drop)]
 pub(crate) struct InScope<'s, 'l, 'i, 'm, 'o, 'w, 't, 'f> {
-    pub(crate) names: &'s Names<'l, 'i, 'm, 'o, 'w, 't>,
+    pub(crate) names: &'s LayeredNames<'l, 'i, 'm, 'o, 'w, 't>,
     pub(crate) firsts: &'s NameSet<'f>,
 }
 

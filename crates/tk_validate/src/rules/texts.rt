@@ -1,12 +1,11 @@
-ghost use Rattle.std.specs.Prelude.{◌≡◌};
+ghost use Rattle.std.specs.Prelude.{◌≡◌, false};
 ghost use Rattle.tk_types.specs.Rejected.{Reads};
 ghost use Rattle.tk_validate.specs.Parts.{given_params};
 ghost use Rattle.tk_validate.specs.Texts.{alone_texts, inlined_texts, pipeline_texts, runs_after_known, task_texts, texts};
 ghost use Rattle.tk_validate.specs.TextsBy.{texts_by};
 
-use crate::name_set::NameSet;
-use crate::parts::{TaskRule, check_inlined, check_pipeline, check_task_spec, check_tasks};
-use crate::rule::{Checked, Rule, check_all, check_there, told_name};
+use crate::parts::{check_inlined, check_pipeline, check_task_spec, check_tasks};
+use crate::rule::{Checked, Rule, check_all, check_there};
 use crate::rules::names::{add_names, names_of};
 use crate::rules::step_texts::check_step_texts;
 use crate::rules::text_rule::InScope;
@@ -14,12 +13,13 @@ use crate::seen::Seen;
 use crate::seen::context::{InlinedContext, pipeline_context, task_context};
 use crate::seen::layers::Layers;
 use crate::seen::outside::{add_given, pipeline_seen};
-use crate::seen::scope::Names;
+use crate::seen::scope::LayeredNames;
 use crate::seen::task_seen::given_by_task;
 use std::alloc::Global;
-use tk_bind::FirstNamed;
-use tk_fields::Location;
-use tk_types::{ItemObject, List, Param, PipelineSpec, PipelineTask, TaskSpec, Text};
+use tk_types::{
+    Fault, FirstNamed, ItemObject, List, Location, NameSet, Param, PipelineSpec, PipelineTask,
+    TaskSpec, Text, told_name,
+};
 
 /// The texts of a spec inlined in a task, which see what the task gives and what its pipeline sees.
 #[derive(Drop)]
@@ -55,20 +55,15 @@ impl<'s, 'l, 'i, 'm, 'o, 'w, 't, 'f, 'p> Rule<Text> for OfTask<'s, 'l, 'i, 'm, '
         if self.scope.firsts.contains(name.as_str()) {
             return Ok(());
         }
-        Err(told_name(alloc, 12, place, name.as_str()))
+        Err(told_name(alloc, Fault::UNKNOWN_TASK, place, name.as_str()))
     }
 }
 
-impl<'s, 'l, 'i, 'm, 'o, 'w, 't, 'f, 'p> TaskRule for OfTask<'s, 'l, 'i, 'm, 'o, 'w, 't, 'f, 'p> {
-    ghost of_task = { λ rule. task_texts rule.scope.firsts.now rule.outer.now rule.scope.names.now };
+impl<'s, 'l, 'i, 'm, 'o, 'w, 't, 'f, 'p> Rule<PipelineTask>
+    for OfTask<'s, 'l, 'i, 'm, 'o, 'w, 't, 'f, 'p> {
+    ghost finding = { λ rule. task_texts rule.scope.firsts.now rule.outer.now rule.scope.names.now false };
 
-    fn check_task(
-        &self,
-        alloc: Global,
-        _is_last: bool,
-        task: &PipelineTask,
-        place: &Location<'_>,
-    ) -> Checked {
+    fn check(&self, alloc: Global, task: &PipelineTask, place: &Location<'_>) -> Checked {
         let inlined = InTask {
             outer: self.outer,
             context: self.context,
@@ -96,7 +91,7 @@ fn check_by_names<'x>(
 {
     let none = FirstNamed::new(alloc, &[])?;
     let paths = FirstNamed::new(alloc, &[])?;
-    let names = Names {
+    let names = LayeredNames {
         seen: Layers::new(&none, &none, &*outer),
         words: &*words,
         paths: &paths,
@@ -113,7 +108,7 @@ fn check_by_names<'x>(
         context: &InlinedContext::new(alloc)?,
     };
     check_tasks(alloc, &rule, spec, place)?;
-    let names = Names {
+    let names = LayeredNames {
         seen: Layers::new(&none, &none, &*outer),
         words: &*words,
         paths: &paths,

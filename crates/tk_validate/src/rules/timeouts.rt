@@ -4,8 +4,7 @@ ghost use Rattle.tk_validate.specs.Timeouts.{overruns, timeouts};
 
 use crate::rule::Checked;
 use std::alloc::Global;
-use tk_fields::{Location, refusal};
-use tk_types::{Given3, ItemObject};
+use tk_types::{Fault, Given3, ItemObject, Location, refusal};
 
 /// Whether the timeouts of a run's parts, each 0 where it isn't written, exceed that of the whole, which is an hour
 /// where it isn't written, and none where it is 0.
@@ -23,7 +22,7 @@ pub fn check_timeouts(alloc: Global, object: &ItemObject, place: &Location<'_>) 
 {
     match object {
         ItemObject::PipelineRun(run) if overruns(&run.timeouts) => {
-            Err(refusal(alloc, 17, &place.key("timeouts")))
+            Err(refusal(alloc, Fault::TIMEOUTS_OVERRUN, &place.key("timeouts")))
         }
         _ => Ok(()),
     }

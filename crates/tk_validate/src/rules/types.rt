@@ -1,15 +1,14 @@
-ghost use Rattle.std.specs.Prelude.{◌≡◌};
+ghost use Rattle.std.specs.Prelude.{◌≡◌, false};
 ghost use Rattle.tk_types.specs.Rejected.{Reads};
 ghost use Rattle.tk_types.specs.Value.{is_of_type};
 ghost use Rattle.tk_validate.specs.Types.{declared_typed, entry_param_typed, entry_typed, matrix_typed, of_type, pipeline_typed, task_spec_typed, task_typed, types};
 
-use crate::parts::{TaskRule, check_inlined, check_pipeline, check_task_spec, check_tasks};
+use crate::parts::{check_inlined, check_pipeline, check_task_spec, check_tasks};
 use crate::rule::{Checked, Rule, check_all, check_there};
 use std::alloc::Global;
-use tk_fields::{Location, refusal};
 use tk_types::{
-    ItemObject, List, Matrix, Param, ParamSpec, ParamType, PipelineSpec, PipelineTask, TaskSpec,
-    Value,
+    Fault, ItemObject, List, Location, Matrix, Param, ParamSpec, ParamType, PipelineSpec,
+    PipelineTask, TaskSpec, Value, refusal,
 };
 
 /// Whether a value is of a type.
@@ -34,7 +33,7 @@ impl Rule<Value> for OfType {
 
     fn check(&self, alloc: Global, value: &Value, place: &Location<'_>) -> Checked {
         if !is_of_type(self.kind, value) {
-            return Err(refusal(alloc, 16, place));
+            return Err(refusal(alloc, Fault::WRONG_TYPE, place));
         }
         Ok(())
     }
@@ -49,7 +48,7 @@ impl Rule<ParamSpec> for Typed {
 
     fn check(&self, alloc: Global, param: &ParamSpec, place: &Location<'_>) -> Checked {
         if matches!(param.kind, ParamType::Obj) && param.properties.is_empty() {
-            return Err(refusal(alloc, 16, place));
+            return Err(refusal(alloc, Fault::WRONG_TYPE, place));
         }
         let rule = OfType { kind: param.kind };
         check_there(alloc, &rule, &param.default_value, place, "default")
@@ -91,16 +90,10 @@ impl Rule<Matrix> for Typed {
     }
 }
 
-impl TaskRule for Typed {
-    ghost of_task = { λ rule. task_typed };
+impl Rule<PipelineTask> for Typed {
+    ghost finding = { λ rule. task_typed false };
 
-    fn check_task(
-        &self,
-        alloc: Global,
-        _is_last: bool,
-        task: &PipelineTask,
-        place: &Location<'_>,
-    ) -> Checked {
+    fn check(&self, alloc: Global, task: &PipelineTask, place: &Location<'_>) -> Checked {
         check_inlined(alloc, self, &task.source, place)?;
         check_there(alloc, self, &task.matrix, place, "matrix")
     }

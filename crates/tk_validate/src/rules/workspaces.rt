@@ -1,13 +1,13 @@
-ghost use Rattle.std.specs.Prelude.{◌≡◌, IfOk};
+ghost use Rattle.std.specs.Prelude.{◌≡◌, false, IfOk};
 ghost use Rattle.tk_types.specs.Rejected.{Reads};
 ghost use Rattle.tk_validate.specs.Workspaces.{is_declared, names_of_spaces, pipeline_hands_on, task_hands_on, undeclared_workspaces};
 
-use crate::name_set::NameSet;
-use crate::parts::{TaskRule, check_pipeline, check_tasks};
+use crate::parts::{check_pipeline, check_tasks};
 use crate::rule::{Checked, Rule, check_all};
 use std::alloc::{AllocError, Global};
-use tk_fields::{Location, refusal};
-use tk_types::{ItemObject, PipelineSpec, PipelineTask, SpaceSpec, SpaceUse};
+use tk_types::{
+    Fault, ItemObject, Location, NameSet, PipelineSpec, PipelineTask, SpaceSpec, SpaceUse, refusal,
+};
 
 /// The names of workspaces.
 fn names_of<'a>(alloc: Global, spaces: &'a [SpaceSpec]) -> Result<NameSet<'a>, AllocError>
@@ -31,23 +31,17 @@ impl<'n, 'a> Rule<SpaceUse> for HandedOn<'n, 'a> {
 
     fn check(&self, alloc: Global, handed: &SpaceUse, place: &Location<'_>) -> Checked {
         if !self.names.contains(handed.from.as_str()) {
-            return Err(refusal(alloc, 11, place));
+            return Err(refusal(alloc, Fault::BAD_CHOICE, place));
         }
         Ok(())
     }
 }
 
-impl<'n, 'a> TaskRule for HandedOn<'n, 'a> {
-    ghost of_task = { λ rule. task_hands_on rule.names.now };
+impl<'n, 'a> Rule<PipelineTask> for HandedOn<'n, 'a> {
+    ghost finding = { λ rule. task_hands_on rule.names.now false };
 
     #[tactic(auto, unfolding(crate::specs::Workspaces::task_hands_on))]
-    fn check_task(
-        &self,
-        alloc: Global,
-        _is_last: bool,
-        task: &PipelineTask,
-        place: &Location<'_>,
-    ) -> Checked {
+    fn check(&self, alloc: Global, task: &PipelineTask, place: &Location<'_>) -> Checked {
         check_all(alloc, self, task.spaces.as_slice(), place, "workspaces")
     }
 }

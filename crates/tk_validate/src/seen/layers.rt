@@ -1,13 +1,14 @@
 ghost use Rattle.std.specs.Prelude.{◌≡◌, ◌++◌, ◌||◌, true, filter_map, find, is_some, option_map};
 ghost use Rattle.std.specs.Option.{option_map_or};
-ghost use Rattle.tk_bind.specs.Scope.{declared, is_in, suits};
+ghost use Rattle.tk_types.specs.Names.{is_in};
+ghost use Rattle.tk_bind.specs.Scope.{declared, suits};
 ghost use Rattle.tk_validate.specs.declared.seen.Seen.{Seen as S};
 ghost use Rattle.tk_validate.specs.Seen.{is_of_name, kind_seen, typed_of, untyped_of};
 
 use crate::seen::Seen;
 use std::marker::Model;
-use tk_bind::{FirstNamed, suits};
-use tk_types::ParamType;
+use tk_bind::suits;
+use tk_types::{FirstNamed, ParamType};
 use tk_vars::Part;
 
 /// The parameters that texts see, in three layers: of equal names the first counts. A contract sees all of them.

@@ -5,8 +5,8 @@ ghost use Rattle.tk_validate.specs.Seen.{declared_seen, given_seen, kind_of_star
 use crate::named::{read, whole_of};
 use crate::seen::{Seen, kind_seen};
 use std::alloc::{AllocError, Global};
-use tk_bind::{FirstNamed, Target, key_part, target_of};
-use tk_types::{List, Param, ParamSpec, ParamType, PipelineSpec, Text, TryCopy, Value};
+use tk_bind::{Target, key_part, target_of};
+use tk_types::{FirstNamed, List, Param, ParamSpec, ParamType, PipelineSpec, Text, TryCopy, Value};
 
 /// A parameter that texts see.
 pub(crate) fn seen(alloc: Global, name: &Text, kind: Option<ParamType>) -> Result<Seen, AllocError>

@@ -3,12 +3,10 @@ ghost use Rattle.tk_validate.specs.declared.seen.Seen.{Seen as S};
 ghost use Rattle.tk_validate.specs.Agreed.{agrees_with, differs};
 ghost use Rattle.tk_validate.specs.Seen.{entries_seen, is_kind, matrix_seen, params_seen, seen};
 
-use crate::name_set::NameSet;
 use crate::seen::outside::{add_lists, add_params, each_given, seen};
 use crate::seen::{Seen, kind_seen};
 use std::alloc::{AllocError, Global};
-use tk_bind::FirstNamed;
-use tk_types::{List, Matrix, Param, ParamType, PipelineTask};
+use tk_types::{FirstNamed, List, Matrix, NameSet, Param, ParamType, PipelineTask};
 
 /// Whether two types are known and the same.
 fn is_kind(first: Option<ParamType>, second: Option<ParamType>) -> bool

@@ -2,7 +2,7 @@ use Rattle.std.proofs.Common.{◌≡◌, not, List, [], ◌∷◌, refl, sym, ap
 use Rattle.std.specs.List.{filter}
 use Rattle.std.proofs.lemmas.Result.{IfOk-weaker}
 use Rattle.tk_types.specs.declared.value.ParamSpec.{ParamSpec}
-use Rattle.tk_bind.specs.Scope.{is_in}
+use Rattle.tk_types.specs.Names.{is_in}
 use Rattle.tk_resolve.proofs.EarlyParams.{no_elements}
 use Rattle.tk_resolve.proofs.beside.wanted_beside.Goals as goal
 

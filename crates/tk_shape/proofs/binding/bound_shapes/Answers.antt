@@ -2,7 +2,7 @@ use Rattle.std.proofs.Common.{◌≡◌, ◌+◌, ◌∷◌, ◌++◌, [], Ok, m
 use Rattle.std.proofs.lemmas.Result.{err_from_is_err_and}
 use Rattle.tk_types.specs.Lists.{all_ok}
 use Rattle.tk_shape.specs.Bound.{bound_shape}
-use Rattle.tk_shape.proofs.AllOk.{all_ok_more, all_ok_refusal}
+use Rattle.tk_bind.proofs.AllOk.{all_ok_more, all_ok_refusal}
 use Rattle.tk_shape.proofs.binding.bound_shapes.Goals as goal
 
 pub loop-spec-preserved : goal.loop-spec-preserved

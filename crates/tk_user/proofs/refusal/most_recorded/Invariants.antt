@@ -1,5 +1,5 @@
 use Rattle.std.proofs.Common.{◌≡◌, drop}
-use Rattle.tk_verdict.specs.Facts.{level_of}
+use Rattle.tk_types.specs.Behaviour.{level_of}
 use Rattle.tk_user.specs.Ask.{greatest}
 use Rattle.tk_user.proofs.refusal.most_recorded.Given as goal
 

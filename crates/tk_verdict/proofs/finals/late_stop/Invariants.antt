@@ -1,6 +1,6 @@
 use Rattle.std.proofs.Common.{◌≡◌, drop, find}
 use Rattle.std.specs.Prelude.{nat_le}
-use Rattle.tk_verdict.specs.Facts.{level_of}
+use Rattle.tk_types.specs.Behaviour.{level_of}
 use Rattle.tk_verdict.proofs.finals.late_stop.Given as goal
 
 -- it is among the stops that are left

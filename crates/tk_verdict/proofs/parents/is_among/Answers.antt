@@ -1,5 +1,5 @@
 use Rattle.std.proofs.Common.{ap, is_some, bytes_eq, ◌∙◌}
-use Rattle.tk_bind.proofs.FirstFound.{is_some-copied}
+use Rattle.tk_types.proofs.FirstFound.{is_some-copied}
 use Rattle.tk_verdict.proofs.Named.{is_some-find}
 use Rattle.tk_verdict.proofs.parents.is_among.Goals as goal
 

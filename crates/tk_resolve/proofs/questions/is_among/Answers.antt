@@ -1,6 +1,0 @@
-use Rattle.std.proofs.Common.{◌∙◌, ap, is_some}
-use Rattle.tk_bind.proofs.FirstFound.{is_some-copied, is_some-find}
-use Rattle.tk_resolve.proofs.questions.is_among.Goals as goal
-
-pub returns : goal.returns
-returns c = c.is_some.ensures ∙ (is_some-copied c.get.result ∙ (ap is_some c.get.ensures ∙ is_some-find c.args.name.now c.args.names.now))
