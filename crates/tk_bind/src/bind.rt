@@ -1,6 +1,6 @@
 ghost use Rattle.std.specs.Prelude.{◌≡◌, Ok, IfOk, IfErr, is_some, option_copied};
 ghost use Rattle.std.specs.List.{list_all};
-ghost use Rattle.tk_types.specs.Value.{is_of_type, text_at, value_named};
+ghost use Rattle.tk_types.specs.Value.{text_at, value_named};
 ghost use Rattle.tk_bind.specs.Bind.{has_keys, first_value, bound_to, bound_param, bound_params};
 ghost use Rattle.tk_bind.specs.Refusal.{IsBindRefusal};
 
@@ -44,17 +44,6 @@ pub fn first_value<'a>(wanted: &'a ParamSpec, sources: &Sources<'a>) -> Option<&
     value_named(&sources.fallback, name)
 }
 
-/// Whether the value has the type.
-fn is_of_type(kind: ParamType, value: &Value) -> bool
-    ensures { result ≡ is_of_type kind value.now }
-{
-    match value {
-        Value::Str(_) => matches!(kind, ParamType::Str),
-        Value::Arr(_) => matches!(kind, ParamType::Arr),
-        Value::Obj(_) => matches!(kind, ParamType::Obj),
-    }
-}
-
 /// Whether the key is there.
 fn has_key(pairs: &FirstNamed<'_, Pair>, key: &Text) -> bool
     ensures { result ≡ is_some (text_at key.now pairs.now) }
@@ -87,7 +76,7 @@ fn bound_to(alloc: Global, wanted: &ParamSpec, value: &Value) -> Result<Param, B
 {
     let name = wanted.name.copy(alloc)?;
     let value = completed(alloc, value, &wanted.default_value)?;
-    if !is_of_type(wanted.kind, &value) {
+    if !value.has_type(wanted.kind) {
         return Err(BindError::WrongKind { name });
     }
     if !has_keys(alloc, wanted.properties.as_slice(), &value)? {

@@ -6,10 +6,9 @@ ghost use Rattle.tk_bind.specs.Substitute.{as_text, as_list, element, joined_tex
 
 use crate::found::Found;
 use crate::lookup::Lookup;
-use crate::substitution::whole_of;
 use std::alloc::{AllocError, Global};
 use tk_types::{Pair, Text};
-use tk_vars::{Piece, Reference, known_pieces};
+use tk_vars::{Piece, Reference, known_pieces, whole_of};
 
 impl<'i, 'p, 'r, 'w, 'o> Lookup<'i, 'p, 'r, 'w, 'o> {
     /// Whether the reference takes a text.

@@ -4,7 +4,6 @@ ghost use Rattle.tk_types.specs.Lists.{all_ok};
 ghost use Rattle.tk_types.specs.Value.{value_texts};
 ghost use Rattle.tk_types.specs.declared.value.Pair.{Pair as P};
 ghost use Rattle.tk_vars.specs.Reading.{HasReading, pieces_of};
-ghost use Rattle.tk_vars.specs.Target.{whole_of};
 ghost use Rattle.tk_bind.specs.Refusal.{IsUnavailable};
 ghost use Rattle.tk_bind.specs.Substitute.{on_ok, as_text, as_list, element, joined_text, piece_text, reference_value, spliced_texts, substituted, substituted_list, substituted_pair, substituted_value, whole_value};
 
@@ -14,30 +13,7 @@ use crate::lookup::{Lookup, index_of};
 use crate::refusal::SubstituteError;
 use std::alloc::{AllocError, Global};
 use tk_types::{List, Pair, Text, TryCopy, Value};
-use tk_vars::{Piece, Reference, known_pieces};
-
-/// The reference that is the whole text and ends with `[*]`.
-pub(crate) fn whole_of<'p, 't>(pieces: &'p [Piece<'t>]) -> Option<&'p Reference<'t>>
-    ensures { option_copied result ≡ whole_of pieces.now }
-{
-    match pieces {
-        [only] => match only {
-            Piece::Ref(reference) if reference.parts.ends_with_star() => Some(reference),
-            _ => None,
-        },
-        _ => None,
-    }
-}
-
-/// Adds copies of texts.
-fn push_all(alloc: Global, made: &mut List<Text>, texts: &[Text]) -> Result<(), AllocError>
-    ensures { OnOk result (made.new ≡ made.old ++ texts.now) }
-{
-    for text in texts {
-        made.push(text.copy(alloc)?)?;
-    }
-    Ok(())
-}
+use tk_vars::{Piece, Reference, known_pieces, whole_of};
 
 impl<'i, 'p, 'r, 'w, 'o> Lookup<'i, 'p, 'r, 'w, 'o> {
     /// The text that a reference takes.
@@ -130,7 +106,7 @@ impl<'i, 'p, 'r, 'w, 'o> Lookup<'i, 'p, 'r, 'w, 'o> {
         let pieces = known_pieces(alloc, text)?;
         match whole_of(pieces.as_slice()) {
             None => made.push(self.joined_text(alloc, pieces.as_slice())?)?,
-            Some(reference) => push_all(alloc, made, self.list_of(alloc, reference)?)?,
+            Some(reference) => made.push_all(alloc, self.list_of(alloc, reference)?)?,
         }
         Ok(())
     }

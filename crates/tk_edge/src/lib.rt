@@ -9,6 +9,18 @@
 //! which children were killed and how often each was watched, which take no memory, and its files where it can. All else
 //! that is asked of a host is a function of its history. `laws` says what a kubelet keeps of it: its steps start in
 //! order, each at most once, each only once all before it passed.
+//!
+//! `source.rt`, `sink.rt`, `clock.rt`, `gate.rt` and `host.rt` have the traits, `miss.rt` why a call answers nothing,
+//! `order.rt` and `event.rt` what a host starts and tells. `memory.rt` has streams of which scripted calls fail,
+//! `clean.rt` streams that never fail, `manual.rt` a clock that is set, `list_gate.rt` a gate over a list,
+//! `clean_host.rt` a host in memory, which is the plain program of its definitions; `stream.rt`, `system.rt`,
+//! `fresh.rt` and `real_host.rt` serve a real run, the last over `host_log.rt`, the record of a history with an index
+//! by child, as does `clean_host.rt`. `armed.rt` is one turn of an entrypoint over any host, `wait_file.rt` the file
+//! that it waits for, whose path with `.err` is made once. `specs/Causes.antt` says how calls are counted,
+//! `History.antt` what a history says, `Calls.antt` what each call adds to it, `Files.antt` and `Markers.antt` what
+//! holds of files where they are told, `Armed.antt` what a turn of an entrypoint gives, `InOrder.antt` when a history
+//! is in order for the pods that a kubelet claimed, and what it must keep for that, `Laws.antt` that every call keeps
+//! it, which `proofs/InOrder.antt` shows.
 #![tactic(auto)]
 
 mod armed;

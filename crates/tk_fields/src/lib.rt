@@ -13,9 +13,14 @@
 //! };
 //! ```
 //!
-//! and behind the last field the rules between fields, as `just_one`. Where a value stands is a `Location` of `tk_types`. An object of more than about five fields is read in parts, its keys
-//! and some fields at a time, each by a function of its own whose check is an `unfoldable` definition; the check of
-//! the whole is `in_order` of them.
+//! and behind the last field the rules between fields, as `just_one`. Where a value stands is a `Location` of
+//! `tk_types`. An object of more than about five fields is read in parts, its keys and some fields at a time, each by a
+//! function of its own whose check is an `unfoldable` definition; the check of the whole is `in_order` of them.
+//!
+//! `reader.rt` has the trait `Reader` (a check, a value, and `read`, which gives exactly these) and fields that must or
+//! may stand. `text.rt`, `number.rt`, `list.rt` and `members.rt` have the forms, `table.rt` the keys, `object.rt`
+//! objects and the choice of two fields. `specs/Check.antt` says what is wrong first with a value, `Get.antt` what
+//! stands there, `Keys.antt` and `Shape.antt` the keys and fields of an object.
 #![tactic(auto)]
 
 pub mod laws;

@@ -2,6 +2,12 @@
 //! refers and those after which it runs. `order` gives ranks that rise
 //! from each parent to its child, or tells the first name that no task has, or the names of a cycle. Ranks exist
 //! exactly where no task is its own ancestor. `cycle` tells the names of a cycle also where a name is of no task.
+//!
+//! From tasks to `names` (an index), `texts` (a task's texts), `references` (the tasks to whose results they refer),
+//! `above` (parents), `unknown`, `below` (children), `removal` (ranks), `walk` (the cycle), `ordering`. A task is
+//! removed when its cursor has passed all its parents, so no recursion is as deep as a chain. `specs/Results.antt` has
+//! the results that texts refer to, `Parents.antt` parents, ancestors and ranks, `Unknown.antt` names of no task,
+//! `Cycle.antt` what is left and the cycle there, `Order.antt` what a refusal means.
 #![tactic(auto)]
 
 mod above;

@@ -3,6 +3,11 @@
 //! say what that may add to the host's history, which children were watched or killed, and on how many pods a call failed.
 //! The conditions of a kubelet's turn (`specs/Conditions.antt`) tie the held pods, the journal and the host to each other;
 //! `laws` says that they hold at the start, behind `run_pods`, and behind the entries of all others.
+//!
+//! `judging.rt` says which are settled (marked or late, by what is seen), `phases.rt` goes over all of them for each
+//! phase of a turn, `running.rt` puts the phases together, `kills.rt` kills all. `specs/Conditions.antt` has the three
+//! conditions of a kubelet's turn, `Pods.antt`, `Settling.antt`, `Watched.antt`, `Played.antt` and `Placed.antt` what
+//! the phases come to, `Laws.antt` that the conditions hold again.
 #![tactic(auto)]
 
 mod judging;

@@ -1,5 +1,7 @@
 //! Worked histories: whole journals from admission to the end, written out, legal and so right at each position; and
 //! tests of the journal, the store, caches and the steps of a pod.
+//!
+//! `entries.rt` has the entries of one run, which the tests share.
 #![tactic(auto)]
 
 #[cfg(test)]

@@ -10,6 +10,7 @@ use Rattle.tk_types.specs.declared.value.ParamType.TheVariants.{Str as string_ty
 use Rattle.tk_types.specs.declared.value.ResultSpec.{ResultSpec}
 use Rattle.tk_types.specs.declared.value.Value.{Value}
 use Rattle.tk_types.specs.declared.value.Value.TheVariants.{Str, Arr, Obj}
+use Rattle.tk_types.specs.Behaviour.{type_of}
 use Rattle.tk_types.specs.Fault.{bad_name, fault, wrong_shape}
 use Rattle.tk_types.specs.declared.fault.Detail.TheVariants.{Nothing}
 use Rattle.tk_types.specs.Place.{Place, ◌▸◌}
@@ -75,11 +76,6 @@ type_name = one_of type_words
 
 abbrev pub type_named : List ℕ → ParamType
 type_named word = if bytes_eq word (codes "array") then array_type else if bytes_eq word (codes "object") then object_type else string_type
-
-abbrev pub type_of : Value → ParamType
-type_of (Str s) = string_type
-type_of (Arr texts) = array_type
-type_of (Obj pairs) = object_type
 
 -- the type that is written; else object where `properties` is, else the default's, else string
 abbrev pub type_unwritten : Bool → Option Value → ParamType

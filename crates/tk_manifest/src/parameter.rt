@@ -4,7 +4,7 @@ ghost use Rattle.serde_json.specs.View.{view};
 ghost use Rattle.tk_types.specs.Rejected.{Reads};
 ghost use Rattle.tk_names.specs.Rules.{is_dot};
 ghost use Rattle.tk_fields.specs.Get.{has, text_at};
-ghost use Rattle.tk_manifest.specs.Parameter.{dotted, is_object_type, key_alone, named_value, param, param_of, param_spec, param_spec_keys, param_spec_of, pipeline_result, pipeline_result_keys, properties, property, property_names, task_result, task_result_keys, task_result_of, type_by as type_chosen, type_named, type_of as type_of_value, type_words, typed_name, value as value_check, value_of as value_of_data, written_type};
+ghost use Rattle.tk_manifest.specs.Parameter.{dotted, is_object_type, key_alone, named_value, param, param_of, param_spec, param_spec_keys, param_spec_of, pipeline_result, pipeline_result_keys, properties, property, property_names, task_result, task_result_keys, task_result_of, type_by as type_chosen, type_named, type_words, typed_name, value as value_check, value_of as value_of_data, written_type};
 
 use crate::names::{ParamName, PipelineResultName, TaskResultName};
 use serde_json::Value as Json;
@@ -152,17 +152,6 @@ impl Entry for PropertyEntry {
     }
 }
 
-/// The type of a value.
-fn type_of(value: &Value) -> ParamType
-    ensures { result ≡ type_of_value value.now }
-{
-    match value {
-        Value::Str(_) => ParamType::Str,
-        Value::Arr(_) => ParamType::Arr,
-        Value::Obj(_) => ParamType::Obj,
-    }
-}
-
 /// The type that is written; else `object` where properties are, else the default's, else `string`.
 #[tactic(auto, unfolding(crate::specs::Parameter::type_by))]
 fn type_by(
@@ -175,7 +164,7 @@ fn type_by(
     match (written, default_value) {
         (Some(kind), _) => kind,
         (None, _) if has_properties => ParamType::Obj,
-        (None, Some(value)) => type_of(value),
+        (None, Some(value)) => value.kind(),
         (None, None) => ParamType::Str,
     }
 }

@@ -1,6 +1,9 @@
 //! The names that Tekton gives to children, pods and generated objects, the rules that names obey, and names that
 //! clash. A rule's test answers exactly as its definition, and takes no memory. A child's name has at most 63 bytes:
 //! a longer one keeps its front and ends in the hash of the whole. `clash` finds the first name that stood earlier.
+//!
+//! `children.rt` has the names of children, pods and generated objects, `rules.rt` the rules that names obey, each
+//! decided both ways, `clashes.rt` the first name that stood earlier.
 #![tactic(auto)]
 
 mod children;

@@ -2,6 +2,9 @@
 //! doesn't pass or every step has an exit. The files of its declared results are then fetched and gathered, and the
 //! outcome is that of its exits and its results (`specs/Walked.antt`). A fetch that fails is kept with the pod, which
 //! then has no outcome by its walk. Laws say that the exits and the outcome are those that the journal allows.
+//!
+//! `walking.rt` has its exits, `fetching.rt` the files of its results, `ending.rt` its outcome; `specs/Walked.antt`,
+//! and `Laws.antt` for what that is to the journal.
 #![tactic(auto)]
 
 mod ending;

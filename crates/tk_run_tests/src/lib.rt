@@ -1,4 +1,6 @@
 //! Runs of inputs on a bench in memory, to their end.
+//!
+//! `benches.rt` has the benches, with gates that keep caches fresh and with late ones.
 #![tactic(auto)]
 
 #[cfg(test)]

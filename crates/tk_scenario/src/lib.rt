@@ -14,6 +14,11 @@
 //!
 //! NAME is the name of an object, STATUS is `Start`, `StoppedRunFinally`, `CancelledRunFinally`, `Cancelled` or
 //! `TaskRunCancelled`, and m is a moment in milliseconds that isn't before the one that the clock reads, 0 at first.
+//!
+//! `words.rt` reads single words (numbers, indexes, kinds, statuses, actors), `event.rt` the form of an event by its
+//! number of words, `events.rt` the list while it keeps the clock's reading, `outcomes.rt` the outcomes beside an
+//! ordered set of their attempts, `scenario.rt` the whole. `specs/Words.antt`, `Event.antt` and `Scenario.antt` are the
+//! definitions.
 #![tactic(auto)]
 
 mod actors;

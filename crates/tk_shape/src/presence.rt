@@ -3,27 +3,13 @@ ghost use Rattle.std.specs.List.{list_all};
 ghost use Rattle.std.specs.Option.{option_copied};
 ghost use Rattle.tk_types.specs.declared.value.Pair.{Pair as P};
 ghost use Rattle.tk_vars.specs.Reading.{HasReading};
-ghost use Rattle.tk_vars.specs.Target.{whole_of};
 ghost use Rattle.tk_shape.specs.ShapeEnv.{reference_shape};
 ghost use Rattle.tk_shape.specs.Substituted.{element_count, has_text, has_value, have_pairs, have_texts, is_text, list_count};
 
 use crate::taken::Shapes;
 use std::alloc::{AllocError, Global};
 use tk_types::{Pair, ParamType, Text};
-use tk_vars::{Piece, Reference, known_pieces};
-
-/// The reference that is the whole text and ends with `[*]`.
-pub(crate) fn whole_of<'p, 't>(pieces: &'p [Piece<'t>]) -> Option<&'p Reference<'t>>
-    ensures { option_copied result ≡ whole_of pieces.now }
-{
-    match pieces {
-        [only] => match only {
-            Piece::Ref(reference) if reference.parts.ends_with_star() => Some(reference),
-            _ => None,
-        },
-        _ => None,
-    }
-}
+use tk_vars::{Piece, Reference, known_pieces, whole_of};
 
 /// Whether the reference takes a text.
 fn takes_text<S: Shapes>(

@@ -8,12 +8,12 @@ ghost use Rattle.tk_shape.specs.ShapeEnv.{reference_shape, shape_env};
 ghost use Rattle.tk_shape.specs.Substituted.{element_count, list_count, pairs_shape, param_shapes, pieces_shape, shape_in, substituted_shape, texts_count};
 
 use crate::named::NamedShape;
-use crate::presence::{have_pairs, have_texts, whole_of};
+use crate::presence::{have_pairs, have_texts};
 use crate::shape::Shape;
 use std::alloc::{AllocError, Global};
 use tk_bind::{Found, Lookup};
 use tk_types::{Pair, Param, Text, Value};
-use tk_vars::{Reference, known_pieces};
+use tk_vars::{Reference, known_pieces, whole_of};
 
 /// How long the list is that is found, if it is one.
 fn found_count(found: Found<'_>) -> Option<usize>

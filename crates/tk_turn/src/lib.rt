@@ -3,6 +3,16 @@
 //! out a state whose journal begins with all that the pass has seen, and what follows is of other owners. `give` asks that
 //! the holder only added entries of its own. `split` lends a number to a new pass, `join` takes a pass back, and `close`
 //! gives the state back. Nothing is said of when a turn comes, or that it does.
+//!
+//! It stands on `atomic_table` alone. `journaled.rt` says what a locked state tells of itself, `pass.rt` and `held.rt`
+//! are what a thread has out of its turn and in it, `lock.rt` has the calls, `table.rt` the steps on the lock's table
+//! (they have no values), `laws.rt` the laws. The table has three words (tickets drawn, tickets served, the journal's
+//! length) and one slot for the state. `specs/Claims.antt` has what contracts say of a pass: what it has seen and what
+//! it owns, when a journal follows it (`Follows`) and when it goes on with entries of its own (`Continues`).
+//! `Views.antt` says what a seat of the table knows, `Turns.antt` what every step keeps and tells, `Rule.antt` the rule
+//! in the lock's own words, which a law draws from it. In `proofs/`, `Numbers` counts seats and numbers, `Seats` has
+//! what the rule says of one seat, `Steps` each step on a word, `Shares` splits, joins and the end, `Implied` the rule,
+//! `Calls` the same steps as the calls take them.
 #![tactic(auto)]
 
 pub mod held;

@@ -2,7 +2,7 @@ ghost use Rattle.std.specs.Prelude.{◌≡◌, ℕ, List, IfOk, bytes_eq, find, 
 ghost use Rattle.std.specs.HashMap.{get_by};
 ghost use Rattle.std.specs.List.{list_any};
 
-use crate::task::{PipelineTask, Space, SpaceUse};
+use crate::task::{PipelineTask, Space, SpaceSpec, SpaceUse};
 use crate::text::Text;
 use crate::value::{Pair, Param, ParamSpec, ResultSpec};
 use std::alloc::{AllocError, Global};
@@ -69,6 +69,14 @@ impl Named for PipelineTask {
 }
 
 impl Named for Space {
+    ghost name = { λ s. s.name };
+
+    fn name(&self) -> &str {
+        self.name.as_str()
+    }
+}
+
+impl Named for SpaceSpec {
     ghost name = { λ s. s.name };
 
     fn name(&self) -> &str {

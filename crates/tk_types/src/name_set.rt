@@ -3,7 +3,7 @@ ghost use Rattle.std.specs.HashMap.{get_by};
 ghost use Rattle.std.specs.List.{list_any};
 ghost use Rattle.tk_types.specs.Names.{is_in};
 
-use crate::first_named::FEW;
+use crate::first_named::{FEW, Named};
 use std::alloc::{AllocError, Global};
 use std::collections::HashMap;
 use std::marker::Model;
@@ -41,6 +41,15 @@ impl<'a> NameSet<'a> {
         }
     }
 
+    /// The names of some things, in their order. The only error is want of memory.
+    pub fn of<T: Named>(alloc: Global, items: &'a [T]) -> Result<Self, AllocError>
+        ensures { IfOk result (λ set. set ≡ map T.name items.now) }
+    {
+        let mut set = NameSet::new(alloc);
+        set.add_all(items)?;
+        Ok(set)
+    }
+
     /// Whether the name is there.
     pub fn contains(&self, name: &str) -> bool
         ensures { result ≡ is_in self.now name.now }
@@ -76,6 +85,16 @@ impl<'a> NameSet<'a> {
             }
         }
         Ok(was)
+    }
+
+    /// Adds the names of some things, in their order. The only error is want of memory.
+    pub fn add_all<T: Named>(&mut self, items: &'a [T]) -> Result<(), AllocError>
+        ensures { OnOk result (self.new ≡ self.old ++ map T.name items.now) }
+    {
+        for item in items {
+            self.add(item.name())?;
+        }
+        Ok(())
     }
 }
 

@@ -14,6 +14,7 @@ use Rattle.tk_types.specs.declared.task.Matrix.{Matrix}
 use Rattle.tk_types.specs.declared.task.PipelineTask.{PipelineTask}
 use Rattle.tk_types.specs.declared.task.TaskSpec.{TaskSpec}
 use Rattle.tk_types.specs.declared.object.PipelineSpec.{PipelineSpec}
+use Rattle.tk_types.specs.Behaviour.{type_of}
 use Rattle.tk_vars.specs.declared.reference.Reference.{Reference}
 use Rattle.tk_vars.specs.Target.{Target, param, target_of}
 use Rattle.tk_bind.specs.declared.scope.Scope.{Scope}
@@ -33,11 +34,6 @@ abbrev pub kind_seen : List Seen → List ℕ → Option ParamType
 kind_seen all name = option_and_then (λ (s : Seen). s.kind) (find (is_of_name name) all)
 
 -- declared parameters, and those given to a run, whose values aren't substituted
-abbrev pub type_of : Value → ParamType
-type_of (Str text) = string
-type_of (Arr texts) = array
-type_of (Obj pairs) = object
-
 abbrev pub declared_seen : List ParamSpec → List Seen
 declared_seen params = map (λ (p : ParamSpec). seen p.name (Some p.kind)) params
 

@@ -7,7 +7,7 @@ ghost use Rattle.tk_validate.specs.Named.{read_references, whole_read};
 
 use std::alloc::{AllocError, Global};
 use tk_vars::laws::one_bad_offset;
-use tk_vars::{Piece, Pieces, Reference, ScanError, names_no_task, scan};
+use tk_vars::{Pieces, ScanError, names_no_task, scan};
 
 /// Whether it shows, before a text is read, that none of its references is to a result or a status of a task.
 #[tactic(auto, using(crate::proofs::NoTask::none_read))]
@@ -28,18 +28,5 @@ pub(crate) fn read(alloc: Global, text: &str) -> Result<Option<Pieces<'_>>, Allo
         Ok(pieces) => Ok(Some(pieces)),
         Err(ScanError::BadReference { .. }) => Ok(None),
         Err(ScanError::Memory) => Err(AllocError),
-    }
-}
-
-/// The reference that is all of some pieces and ends with `[*]`.
-pub(crate) fn whole_of<'p, 't>(pieces: &'p [Piece<'t>]) -> Option<&'p Reference<'t>>
-    ensures { option_copied result ≡ whole_of pieces.now }
-{
-    match pieces {
-        [only] => match only {
-            Piece::Ref(reference) if reference.parts.ends_with_star() => Some(reference),
-            _ => None,
-        },
-        _ => None,
     }
 }

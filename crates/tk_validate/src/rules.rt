@@ -2,7 +2,6 @@
 
 pub(crate) mod conflicts;
 pub(crate) mod cycle;
-mod entry;
 pub(crate) mod finally;
 pub(crate) mod names;
 pub(crate) mod sizes;

@@ -1,3 +1,6 @@
+ghost use Rattle.std.specs.Prelude.{◌≡◌, option_copied};
+ghost use Rattle.tk_vars.specs.Target.{whole_of};
+
 use crate::reference::Reference;
 use crate::word::Word;
 
@@ -8,4 +11,17 @@ pub enum Piece<'t> {
     Plain(Word<'t>),
     /// A reference.
     Ref(Reference<'t>),
+}
+
+/// The reference that is all of some pieces and ends with `[*]`.
+pub fn whole_of<'p, 't>(pieces: &'p [Piece<'t>]) -> Option<&'p Reference<'t>>
+    ensures { option_copied result ≡ whole_of pieces.now }
+{
+    match pieces {
+        [only] => match only {
+            Piece::Ref(reference) if reference.parts.ends_with_star() => Some(reference),
+            _ => None,
+        },
+        _ => None,
+    }
 }

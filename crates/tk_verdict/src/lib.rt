@@ -3,6 +3,22 @@
 //! has the label that the others' give it, and an acyclic run has exactly one. `Decision` answers all of it for one run;
 //! `verdicts`, `condition`, `pipeline_results` and `ready` answer one question each. The laws say that there is one
 //! labelling, what stays when the facts of a run move on, and that a run goes on until all is done.
+//!
+//! First what is gathered once: `groups.rt` has the children of each task, `sorted.rt` orders them, `available.rt`
+//! gives the results that references may take, `good.rt` which tasks are good. Then what a task's own texts give:
+//! `tk_early` and `status.rt` have its variables, `guards.rt`, `combined.rt` and `own.rt` its expressions and
+//! combinations and why they skip it, `parents.rt` and `missing.rt` what is asked of parents and of results. `judge.rt`
+//! gives the label that children give, `tasks.rt` and `finals.rt` the label of a task of `tasks` and of `finally`,
+//! `walk.rt` goes over `tasks` by rank, `labels.rt` puts `finally` behind. `finished.rt` has the rows of the condition,
+//! `emit.rt` the pipeline's results, `bindings.rt` the bindings of a task that is ready; `calls.rt` has ranks and
+//! children of a run, and `decision.rt` the calls, over a `Decision` that has all of it for one run; `judging.rt` lists
+//! what judges one task, for crates above. `specs/Labels.antt`, `Rows.antt`, `Bindings.antt`, `Available.antt`,
+//! `Words.antt` and `Condition.antt` are the definitions, `Gives.antt`, `Moves.antt` and `Progress.antt` what the laws
+//! of `moves.rt`, `giving.rt` and `progress.rt` speak of. `proofs/OneLabelling.antt` has the law of one labelling once,
+//! for any line that looks at the labels of parents and, in `finally`, at all labels of `tasks`. The laws of steps rest
+//! on `proofs/GoodStays.antt`: a good parent has the same children after each step and stays good; with children since
+//! all ended and only a task that is ready gets more, without since its guard skips it and its own parents are good.
+//! Texts see results of parents alone, so what they give stays.
 #![tactic(auto)]
 
 mod available;

@@ -1,5 +1,7 @@
 //! Tests of run workers, task workers and asks over one store and the caches of two controllers: what they answer, and
 //! what they write.
+//!
+//! `place.rt` and `play.rt` play a list of steps, `words.rt` reads steps from texts, `told.rt` tells entries as lines.
 #![tactic(auto)]
 
 #[cfg(test)]

@@ -1,6 +1,10 @@
 //! The program `tkn`: `main` gives the words, standard input, standard output and a bench over the system's clock, folders and
 //! programs to `tkn` of `tk_commands`, whose clauses say what it does with them, and says on standard error what is wrong where
 //! a status tells no more.
+//!
+//! `main.rt` has the bench over the system's clock, folders and programs; `remembering.rt` keeps what was read and the
+//! line that was printed, of which `main` says more on standard error. The stored run is `examples/runs.json` by real
+//! programs.
 #![tactic(auto)]
 
 ghost use Rattle.std.specs.Prelude.{◌≡◌, ◌<◌, ◌⊎◌, ◌↔◌, is_some, IfOk, IsTrue};

@@ -3,10 +3,10 @@ ghost use Rattle.tk_types.specs.First.{first_if_there, first_of};
 ghost use Rattle.tk_types.specs.Place.{◌▸◌};
 ghost use Rattle.tk_types.specs.Rejected.{Reads};
 ghost use Rattle.tk_vars.specs.Target.{referenced};
-ghost use Rattle.tk_validate.specs.Conflicts.{apart, conflicts, entry_finding, include_finding, list_finding, listed, matrix_finding, matrixed, may_be_list, pipeline_conflicts, taken_in_part, takes_whole, task_conflicts};
+ghost use Rattle.tk_validate.specs.Conflicts.{apart, conflicts, entry_finding, include_finding, list_finding, matrix_finding, matrixed, may_be_list, pipeline_conflicts, taken_in_part, takes_whole, task_conflicts};
 ghost use Rattle.tk_validate.specs.Names.{names_of};
 
-use crate::named::{read, reads_no_task, whole_of};
+use crate::named::{read, reads_no_task};
 use crate::parts::{check_pipeline, check_tasks};
 use crate::rule::{Checked, Rule, check_all};
 use crate::sited::TextRule;
@@ -16,7 +16,7 @@ use tk_types::{
     Fault, FirstNamed, ItemObject, List, Location, Matrix, NameSet, Param, PipelineSpec,
     PipelineTask, Value, told_name,
 };
-use tk_vars::{Piece, Reference};
+use tk_vars::{Piece, Reference, whole_of};
 
 /// The task of these of which a reference takes a result other than as `[*]`.
 fn taken_of<'p, 't>(names: &NameSet<'_>, reference: &'p Reference<'t>) -> Option<&'p str>
@@ -83,17 +83,6 @@ fn may_be_list(alloc: Global, value: &Value) -> Result<bool, AllocError>
     }
 }
 
-/// Refuses a value of a matrix that is no list.
-fn check_listed(alloc: Global, param: &Param, place: &Location<'_>) -> Checked
-    ensures { Reads (listed place.now param.now) tt result }
-{
-    if may_be_list(alloc, &param.value)? {
-        return Ok(());
-    }
-    let value = place.key("value");
-    Err(told_name(alloc, Fault::MATRIX_CONFLICT, &value, param.name.as_str()))
-}
-
 /// Refuses a parameter of a matrix with the name of one of the task's own.
 fn check_apart(
     alloc: Global,
@@ -111,12 +100,12 @@ fn check_apart(
 
 /// A matrix beside the task's own parameters and what texts take of some tasks.
 #[derive(Drop)]
-struct Beside<'n, 'a, 'o, 'p> {
-    takes: TakesWhole<'n, 'a>,
-    own: &'o FirstNamed<'p, Param>,
+struct Beside<'n> {
+    takes: TakesWhole<'n, 'n>,
+    own: &'n FirstNamed<'n, Param>,
 }
 
-impl<'n, 'a, 'o, 'p> Rule<Param> for Beside<'n, 'a, 'o, 'p> {
+impl<'n> Rule<Param> for Beside<'n> {
     ghost finding = { λ rule. entry_finding rule.takes.names.now rule.own.now };
 
     fn check(&self, alloc: Global, param: &Param, place: &Location<'_>) -> Checked {
@@ -127,21 +116,24 @@ impl<'n, 'a, 'o, 'p> Rule<Param> for Beside<'n, 'a, 'o, 'p> {
 
 /// Its parameters, whose values are lists.
 #[derive(Drop)]
-struct Lists<'r, 'n, 'a, 'o, 'p> {
-    beside: &'r Beside<'n, 'a, 'o, 'p>,
+struct Lists<'n> {
+    beside: &'n Beside<'n>,
 }
 
-impl<'r, 'n, 'a, 'o, 'p> Rule<Param> for Lists<'r, 'n, 'a, 'o, 'p> {
+impl<'n> Rule<Param> for Lists<'n> {
     ghost finding = { λ rule. list_finding rule.beside.now.takes.names.now rule.beside.now.own.now };
 
     fn check(&self, alloc: Global, param: &Param, place: &Location<'_>) -> Checked {
         check_apart(alloc, self.beside.own, param, place)?;
-        check_listed(alloc, param, place)?;
+        if !may_be_list(alloc, &param.value)? {
+            let value = place.key("value");
+            return Err(told_name(alloc, Fault::MATRIX_CONFLICT, &value, param.name.as_str()));
+        }
         self.beside.takes.check(alloc, param, place)
     }
 }
 
-impl<'n, 'a, 'o, 'p> Rule<List<Param>> for Beside<'n, 'a, 'o, 'p> {
+impl<'n> Rule<List<Param>> for Beside<'n> {
     ghost finding = { λ rule. include_finding rule.takes.names.now rule.own.now };
 
     fn check(&self, alloc: Global, params: &List<Param>, place: &Location<'_>) -> Checked {
@@ -149,7 +141,7 @@ impl<'n, 'a, 'o, 'p> Rule<List<Param>> for Beside<'n, 'a, 'o, 'p> {
     }
 }
 
-impl<'n, 'a, 'o, 'p> Rule<Matrix> for Beside<'n, 'a, 'o, 'p> {
+impl<'n> Rule<Matrix> for Beside<'n> {
     ghost finding = { λ rule. matrix_finding rule.takes.names.now rule.own.now };
 
     fn check(&self, alloc: Global, matrix: &Matrix, place: &Location<'_>) -> Checked {

@@ -6,7 +6,6 @@ ghost use Rattle.tk_validate.specs.Finally.{finally_rules, names_no, names_resul
 use crate::named::read;
 use crate::parts::{check_inlined, check_pipeline, check_task_spec};
 use crate::rule::{Checked, Rule, check_all, check_there};
-use crate::rules::names::names_of;
 use crate::sited::TextRule;
 use std::alloc::{AllocError, Global};
 use tk_bind::is_status;
@@ -162,7 +161,7 @@ impl Rule<PipelineSpec> for Finally {
 
     #[tactic(auto, unfolding(crate::specs::Finally::pipeline_obeys))]
     fn check(&self, alloc: Global, spec: &PipelineSpec, place: &Location<'_>) -> Checked {
-        let lasts = names_of(alloc, &spec.finally)?;
+        let lasts = NameSet::of(alloc, spec.finally.as_slice())?;
         check_tasks(alloc, &lasts, spec, place)?;
         let rule = NamesNo { kind: Status };
         check_all(alloc, &rule, spec.results.as_slice(), place, "results")

@@ -2,16 +2,46 @@ ghost use Rattle.std.specs.Prelude.{◌≡◌, ◌++◌, [], ◌∷◌, Some, op
 ghost use Rattle.tk_types.specs.First.{first_if_there, first_of};
 ghost use Rattle.tk_types.specs.Place.{◌▸◌};
 ghost use Rattle.tk_types.specs.Rejected.{Reads};
-ghost use Rattle.tk_validate.specs.Names.{bindings_differ, differ, differ_from, duplicates, env_differs, matrix_names, names_of, params_differ, pipeline_names, task_names, task_spec_names, told_before};
+ghost use Rattle.tk_validate.specs.Names.{bindings_differ, differ, differ_from, duplicates, env_differs, matrix_names, nothing_inside, params_differ, pipeline_names, task_names, task_spec_names, told_before};
 
 use crate::parts::{check_inlined, check_pipeline, check_task_spec};
 use crate::rule::{Checked, Rule, check_all, check_there};
-use crate::rules::entry::{Entries, Nothing, Spaces};
-use std::alloc::{AllocError, Global};
+use std::alloc::Global;
 use tk_types::{
     Fault, ItemObject, List, Location, Matrix, NameSet, Named, Param, PipelineSpec, PipelineTask,
     Space, Step, TaskSpec, told_name,
 };
+
+/// A rule on the entries of a list in which no name stands twice.
+trait Entries<T>: Rule<T> {
+    ghost use Rattle.std.specs.Prelude.{List, ℕ, Option};
+
+    ghost label: { T → Option (List ℕ) };
+
+    /// The name of an entry, if it has one.
+    fn label<'e>(&self, entry: &'e T) -> Option<&'e str>
+        ensures { option_map (λ name. name.now) result ≡ label entry.now };
+}
+
+/// Entries in which nothing can be wrong.
+#[derive(Drop)]
+struct Nothing;
+
+impl<P> Rule<P> for Nothing {
+    ghost finding = { λ rule. nothing_inside };
+
+    fn check(&self, _alloc: Global, _part: &P, _place: &Location<'_>) -> Checked {
+        Ok(())
+    }
+}
+
+impl<T: Named> Entries<T> for Nothing {
+    ghost label = { λ entry. Some (T.name entry) };
+
+    fn label<'e>(&self, entry: &'e T) -> Option<&'e str> {
+        Some(entry.name())
+    }
+}
 
 /// Adds a name, if there is one, and refuses one that is there.
 fn add_name<'a>(
@@ -109,7 +139,7 @@ impl Rule<TaskSpec> for Apart {
         check_list(alloc, &spec.params, place, "params")?;
         check_first(alloc, self, &spec.steps, place, "steps")?;
         check_list(alloc, &spec.results, place, "results")?;
-        check_first(alloc, &Spaces, &spec.spaces, place, "workspaces")
+        check_first(alloc, &Nothing, &spec.spaces, place, "workspaces")
     }
 }
 
@@ -149,31 +179,6 @@ impl Entries<PipelineTask> for Apart {
     }
 }
 
-/// Adds the names of tasks.
-pub(crate) fn add_names<'a>(
-    names: &mut NameSet<'a>,
-    tasks: &'a List<PipelineTask>,
-) -> Result<(), AllocError>
-    ensures { OnOk result (names.new ≡ names.old ++ names_of tasks.now) }
-{
-    for task in tasks.as_slice() {
-        names.add(task.name.as_str())?;
-    }
-    Ok(())
-}
-
-/// The names of tasks.
-pub(crate) fn names_of<'a>(
-    alloc: Global,
-    tasks: &'a List<PipelineTask>,
-) -> Result<NameSet<'a>, AllocError>
-    ensures { IfOk result (λ names. names ≡ names_of tasks.now) }
-{
-    let mut names = NameSet::new(alloc);
-    add_names(&mut names, tasks)?;
-    Ok(names)
-}
-
 impl Rule<PipelineSpec> for Apart {
     ghost finding = { λ rule. pipeline_names };
 
@@ -181,11 +186,11 @@ impl Rule<PipelineSpec> for Apart {
     fn check(&self, alloc: Global, spec: &PipelineSpec, place: &Location<'_>) -> Checked {
         check_list(alloc, &spec.params, place, "params")?;
         check_first(alloc, self, &spec.tasks, place, "tasks")?;
-        let names = names_of(alloc, &spec.tasks)?;
+        let names = NameSet::of(alloc, spec.tasks.as_slice())?;
         let lasts = spec.finally.as_slice();
         check_entries(alloc, names, self, lasts, &place.key("finally"))?;
         check_list(alloc, &spec.results, place, "results")?;
-        check_first(alloc, &Spaces, &spec.spaces, place, "workspaces")
+        check_first(alloc, &Nothing, &spec.spaces, place, "workspaces")
     }
 }
 

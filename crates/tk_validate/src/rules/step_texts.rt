@@ -2,7 +2,7 @@ ghost use Rattle.std.specs.Prelude.{◌≡◌, ◌++◌, [], false, IfOk, OnOk};
 ghost use Rattle.tk_types.specs.Rejected.{Reads};
 ghost use Rattle.tk_bind.specs.Fits.{result_words, space_words, words_of_space};
 ghost use Rattle.tk_validate.specs.Scoped.{scope_with};
-ghost use Rattle.tk_validate.specs.Seen.{declared_seen, keys};
+ghost use Rattle.tk_validate.specs.Seen.{keys};
 ghost use Rattle.tk_validate.specs.Sited.{in_steps};
 ghost use Rattle.tk_validate.specs.Texts.{step_texts, text_finding};
 
@@ -10,7 +10,7 @@ use crate::rule::{Checked, Rule};
 use crate::rules::text_rule::InScope;
 use crate::seen::Seen;
 use crate::seen::layers::Layers;
-use crate::seen::outside::add_declared;
+use crate::seen::outside::declared_seen;
 use crate::seen::scope::LayeredNames;
 use std::alloc::{AllocError, Global};
 use tk_types::{FirstNamed, List, Location, NameSet, ResultSpec, SpaceSpec, TaskSpec, Text};
@@ -19,11 +19,7 @@ use tk_types::{FirstNamed, List, Location, NameSet, ResultSpec, SpaceSpec, TaskS
 fn name_around(alloc: Global, front: &str, name: &Text, end: &str) -> Result<Text, AllocError>
     ensures { IfOk result (λ text. text ≡ front.now ++ (name.now ++ end.now)) }
 {
-    let length = front
-        .len()
-        .saturating_add(name.len())
-        .saturating_add(end.len());
-    let mut text = String::with_capacity(alloc, length)?;
+    let mut text = String::new(alloc);
     text.push_str(front)?;
     text.push_str(name.as_str())?;
     text.push_str(end)?;
@@ -66,28 +62,6 @@ fn result_paths(alloc: Global, results: &[ResultSpec]) -> Result<List<Text>, All
     Ok(paths)
 }
 
-/// What the texts of a Task's steps see of its own parameters.
-fn own_seen(alloc: Global, spec: &TaskSpec) -> Result<List<Seen>, AllocError>
-    ensures { IfOk result (λ seen. seen ≡ declared_seen spec.now.params) }
-{
-    let mut seen = List::new(alloc);
-    add_declared(alloc, &mut seen, spec.params.as_slice())?;
-    Ok(seen)
-}
-
-/// Refuses the first text of a Task's steps with which something is wrong, by what they may name.
-fn check_named<'x>(
-    alloc: Global,
-    names: &'x LayeredNames<'_, '_, '_, '_, '_, '_>,
-    firsts: &'x NameSet<'_>,
-    spec: &TaskSpec,
-    place: &Location<'_>,
-) -> Checked
-    ensures { Reads (in_steps (text_finding firsts.now names.now) place.now spec.now) tt result }
-{
-    InScope { names, firsts }.check(alloc, spec, place)
-}
-
 /// Refuses the first text of a Task's steps with which something is wrong, by what they see and name.
 fn check_indexed<'x>(
     alloc: Global,
@@ -114,7 +88,11 @@ fn check_indexed<'x>(
         results: false,
         finally_results: false,
     };
-    check_named(alloc, &names, &none, spec, place)
+    let rule = InScope {
+        names: &names,
+        firsts: &none,
+    };
+    rule.check(alloc, spec, place)
 }
 
 /// Refuses the first text of a Task's steps with which something is wrong; they see two layers behind the Task's own
@@ -129,7 +107,7 @@ pub(crate) fn check_step_texts<'x>(
 ) -> Checked
     ensures { Reads (step_texts (middle.now ++ outer.now) context place.now spec.now) tt result }
 {
-    let seen = own_seen(alloc, spec)?;
+    let seen = declared_seen(alloc, spec.params.as_slice())?;
     let words = step_words(alloc, context, spec.spaces.as_slice())?;
     let paths = result_paths(alloc, spec.results.as_slice())?;
     check_indexed(

@@ -33,47 +33,6 @@ fn told_unknown(alloc: Global, place: &Location<'_>, spelling: &str) -> Rejected
     }
 }
 
-/// The first task that some pieces name and that isn't there.
-fn first_unknown_task<'p, 't>(
-    names: &LayeredNames<'_, '_, '_, '_, '_, '_>,
-    firsts: &NameSet<'_>,
-    pieces: &'p [Piece<'t>],
-) -> Option<&'p str>
-    ensures { option_map (λ task. task.now) result ≡ first_of (map (unknown_of firsts.now names.now) (filter_map referenced pieces.now)) }
-{
-    for piece in pieces {
-        if let Piece::Ref(reference) = piece
-            && let Some(task) = names.unknown_of(firsts, reference)
-        {
-            return Some(task);
-        }
-    }
-    None
-}
-
-/// Refuses what is wrong first with the references of some pieces.
-fn check_pieces(
-    alloc: Global,
-    names: &LayeredNames<'_, '_, '_, '_, '_, '_>,
-    firsts: &NameSet<'_>,
-    whole: bool,
-    pieces: &[Piece<'_>],
-    place: &Location<'_>,
-) -> Checked
-    ensures { Reads (pieces_finding firsts.now names.now whole pieces.now place.now) tt result }
-{
-    if let Some(reference) = first_unseen(alloc, names, pieces)? {
-        return Err(told_unknown(alloc, place, reference.spelling.as_str()));
-    }
-    if let Some(task) = first_unknown_task(names, firsts, pieces) {
-        return Err(told_name(alloc, Fault::UNKNOWN_TASK, place, task));
-    }
-    if let Some(_) = first_mistyped(alloc, names, whole, pieces)? {
-        return Err(refusal(alloc, Fault::WRONG_TYPE, place));
-    }
-    Ok(())
-}
-
 /// The pieces of a text; one without a reading is refused where a reference must stand.
 fn scanned<'t>(alloc: Global, text: &'t str, place: &Location<'_>) -> Result<Pieces<'t>, Rejected>
     ensures pieces { IfOk result (λ pieces. pieces ≡ pieces_of text.now) }
@@ -92,12 +51,50 @@ fn scanned<'t>(alloc: Global, text: &'t str, place: &Location<'_>) -> Result<Pie
 
 /// Texts that have a reading, name what they may, and use it by its type.
 #[derive(Drop)]
-pub(crate) struct InScope<'s, 'l, 'i, 'm, 'o, 'w, 't, 'f> {
-    pub(crate) names: &'s LayeredNames<'l, 'i, 'm, 'o, 'w, 't>,
-    pub(crate) firsts: &'s NameSet<'f>,
+pub(crate) struct InScope<'s> {
+    pub(crate) names: &'s LayeredNames<'s>,
+    pub(crate) firsts: &'s NameSet<'s>,
 }
 
-impl<'s, 'l, 'i, 'm, 'o, 'w, 't, 'f> TextRule for InScope<'s, 'l, 'i, 'm, 'o, 'w, 't, 'f> {
+impl<'s> InScope<'s> {
+    /// The first task that some pieces name and that isn't there.
+    fn unknown_task<'p, 't>(&self, pieces: &'p [Piece<'t>]) -> Option<&'p str>
+        ensures { option_map (λ task. task.now) result ≡ first_of (map (unknown_of self.now.firsts.now self.now.names.now) (filter_map referenced pieces.now)) }
+    {
+        for piece in pieces {
+            if let Piece::Ref(reference) = piece
+                && let Some(task) = self.names.unknown_of(self.firsts, reference)
+            {
+                return Some(task);
+            }
+        }
+        None
+    }
+
+    /// Refuses what is wrong first with the references of some pieces.
+    fn check_pieces(
+        &self,
+        alloc: Global,
+        whole: bool,
+        pieces: &[Piece<'_>],
+        place: &Location<'_>,
+    ) -> Checked
+        ensures { Reads (pieces_finding self.now.firsts.now self.now.names.now whole pieces.now place.now) tt result }
+    {
+        if let Some(reference) = first_unseen(alloc, self.names, pieces)? {
+            return Err(told_unknown(alloc, place, reference.spelling.as_str()));
+        }
+        if let Some(task) = self.unknown_task(pieces) {
+            return Err(told_name(alloc, Fault::UNKNOWN_TASK, place, task));
+        }
+        if let Some(_) = first_mistyped(alloc, self.names, whole, pieces)? {
+            return Err(refusal(alloc, Fault::WRONG_TYPE, place));
+        }
+        Ok(())
+    }
+}
+
+impl<'s> TextRule for InScope<'s> {
     ghost in_text = { λ rule. text_finding rule.firsts.now rule.names.now };
 
     #[tactic(auto, unfolding(crate::specs::Texts::text_finding))]
@@ -106,13 +103,6 @@ impl<'s, 'l, 'i, 'm, 'o, 'w, 't, 'f> TextRule for InScope<'s, 'l, 'i, 'm, 'o, 'w
             return Ok(());
         }
         let pieces = scanned(alloc, text, place)?;
-        check_pieces(
-            alloc,
-            self.names,
-            self.firsts,
-            whole,
-            pieces.as_slice(),
-            place,
-        )
+        self.check_pieces(alloc, whole, pieces.as_slice(), place)
     }
 }

@@ -6,7 +6,6 @@ ghost use Rattle.tk_validate.specs.TextsBy.{texts_by};
 
 use crate::parts::{check_inlined, check_pipeline, check_task_spec, check_tasks};
 use crate::rule::{Checked, Rule, check_all, check_there};
-use crate::rules::names::{add_names, names_of};
 use crate::rules::step_texts::check_step_texts;
 use crate::rules::text_rule::InScope;
 use crate::seen::Seen;
@@ -23,13 +22,13 @@ use tk_types::{
 
 /// The texts of a spec inlined in a task, which see what the task gives and what its pipeline sees.
 #[derive(Drop)]
-struct InTask<'s, 'p, 't> {
-    outer: &'s FirstNamed<'p, Seen>,
+struct InTask<'s> {
+    outer: &'s FirstNamed<'s, Seen>,
     context: &'s InlinedContext,
-    task: &'t PipelineTask,
+    task: &'s PipelineTask,
 }
 
-impl<'s, 'p, 't> Rule<TaskSpec> for InTask<'s, 'p, 't> {
+impl<'s> Rule<TaskSpec> for InTask<'s> {
     ghost finding = { λ rule. inlined_texts rule.outer.now rule.task.now };
 
     fn check(&self, alloc: Global, spec: &TaskSpec, place: &Location<'_>) -> Checked {
@@ -42,13 +41,13 @@ impl<'s, 'p, 't> Rule<TaskSpec> for InTask<'s, 'p, 't> {
 
 /// The texts of a pipeline task, and the names after which it runs.
 #[derive(Drop)]
-struct OfTask<'s, 'l, 'i, 'm, 'o, 'w, 't, 'f, 'p> {
-    scope: InScope<'s, 'l, 'i, 'm, 'o, 'w, 't, 'f>,
-    outer: &'s FirstNamed<'p, Seen>,
+struct OfTask<'s> {
+    scope: InScope<'s>,
+    outer: &'s FirstNamed<'s, Seen>,
     context: &'s InlinedContext,
 }
 
-impl<'s, 'l, 'i, 'm, 'o, 'w, 't, 'f, 'p> Rule<Text> for OfTask<'s, 'l, 'i, 'm, 'o, 'w, 't, 'f, 'p> {
+impl<'s> Rule<Text> for OfTask<'s> {
     ghost finding = { λ rule. runs_after_known rule.scope.firsts.now };
 
     fn check(&self, alloc: Global, name: &Text, place: &Location<'_>) -> Checked {
@@ -59,8 +58,7 @@ impl<'s, 'l, 'i, 'm, 'o, 'w, 't, 'f, 'p> Rule<Text> for OfTask<'s, 'l, 'i, 'm, '
     }
 }
 
-impl<'s, 'l, 'i, 'm, 'o, 'w, 't, 'f, 'p> Rule<PipelineTask>
-    for OfTask<'s, 'l, 'i, 'm, 'o, 'w, 't, 'f, 'p> {
+impl<'s> Rule<PipelineTask> for OfTask<'s> {
     ghost finding = { λ rule. task_texts rule.scope.firsts.now rule.outer.now rule.scope.names.now false };
 
     fn check(&self, alloc: Global, task: &PipelineTask, place: &Location<'_>) -> Checked {
@@ -138,9 +136,9 @@ impl<'g> Rule<PipelineSpec> for Given<'g> {
         let outer = FirstNamed::new(alloc, seen.as_slice())?;
         let words = pipeline_context(alloc)?;
         let words = FirstNamed::new(alloc, words.as_slice())?;
-        let firsts = names_of(alloc, &spec.tasks)?;
-        let mut tasks = names_of(alloc, &spec.tasks)?;
-        add_names(&mut tasks, &spec.finally)?;
+        let firsts = NameSet::of(alloc, spec.tasks.as_slice())?;
+        let mut tasks = NameSet::of(alloc, spec.tasks.as_slice())?;
+        tasks.add_all(spec.finally.as_slice())?;
         check_by_names(alloc, &outer, &words, &firsts, &tasks, spec, place)
     }
 }

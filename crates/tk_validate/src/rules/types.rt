@@ -1,6 +1,5 @@
 ghost use Rattle.std.specs.Prelude.{◌≡◌, false};
 ghost use Rattle.tk_types.specs.Rejected.{Reads};
-ghost use Rattle.tk_types.specs.Value.{is_of_type};
 ghost use Rattle.tk_validate.specs.Types.{declared_typed, entry_param_typed, entry_typed, matrix_typed, of_type, pipeline_typed, task_spec_typed, task_typed, types};
 
 use crate::parts::{check_inlined, check_pipeline, check_task_spec, check_tasks};
@@ -10,17 +9,6 @@ use tk_types::{
     Fault, ItemObject, List, Location, Matrix, Param, ParamSpec, ParamType, PipelineSpec,
     PipelineTask, TaskSpec, Value, refusal,
 };
-
-/// Whether a value is of a type.
-fn is_of_type(kind: ParamType, value: &Value) -> bool
-    ensures { result ≡ is_of_type kind value.now }
-{
-    match value {
-        Value::Str(_) => matches!(kind, ParamType::Str),
-        Value::Arr(_) => matches!(kind, ParamType::Arr),
-        Value::Obj(_) => matches!(kind, ParamType::Obj),
-    }
-}
 
 /// Values of a type.
 #[derive(Drop)]
@@ -32,7 +20,7 @@ impl Rule<Value> for OfType {
     ghost finding = { λ rule. of_type rule.kind };
 
     fn check(&self, alloc: Global, value: &Value, place: &Location<'_>) -> Checked {
-        if !is_of_type(self.kind, value) {
+        if !value.has_type(self.kind) {
             return Err(refusal(alloc, Fault::WRONG_TYPE, place));
         }
         Ok(())

@@ -1,24 +1,13 @@
-ghost use Rattle.std.specs.Prelude.{◌≡◌, false, IfOk};
+ghost use Rattle.std.specs.Prelude.{false};
 ghost use Rattle.tk_types.specs.Rejected.{Reads};
-ghost use Rattle.tk_validate.specs.Workspaces.{is_declared, names_of_spaces, pipeline_hands_on, task_hands_on, undeclared_workspaces};
+ghost use Rattle.tk_validate.specs.Workspaces.{is_declared, pipeline_hands_on, task_hands_on, undeclared_workspaces};
 
 use crate::parts::{check_pipeline, check_tasks};
 use crate::rule::{Checked, Rule, check_all};
-use std::alloc::{AllocError, Global};
+use std::alloc::Global;
 use tk_types::{
-    Fault, ItemObject, Location, NameSet, PipelineSpec, PipelineTask, SpaceSpec, SpaceUse, refusal,
+    Fault, ItemObject, Location, NameSet, PipelineSpec, PipelineTask, SpaceUse, refusal,
 };
-
-/// The names of workspaces.
-fn names_of<'a>(alloc: Global, spaces: &'a [SpaceSpec]) -> Result<NameSet<'a>, AllocError>
-    ensures { IfOk result (λ names. names ≡ names_of_spaces spaces.now) }
-{
-    let mut names = NameSet::new(alloc);
-    for space in spaces {
-        names.add(space.name.as_str())?;
-    }
-    Ok(names)
-}
 
 /// Workspaces that are handed on, each of which has one of the names.
 #[derive(Drop)]
@@ -55,7 +44,7 @@ impl Rule<PipelineSpec> for Declared {
 
     #[tactic(auto, unfolding(crate::specs::Workspaces::pipeline_hands_on))]
     fn check(&self, alloc: Global, spec: &PipelineSpec, place: &Location<'_>) -> Checked {
-        let names = names_of(alloc, spec.spaces.as_slice())?;
+        let names = NameSet::of(alloc, spec.spaces.as_slice())?;
         check_tasks(alloc, &HandedOn { names: &names }, spec, place)
     }
 }

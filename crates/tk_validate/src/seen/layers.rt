@@ -13,13 +13,13 @@ use tk_vars::Part;
 
 /// The parameters that texts see, in three layers: of equal names the first counts. A contract sees all of them.
 #[derive(Drop)]
-pub(crate) struct Layers<'l, 'i, 'm, 'o> {
-    inner: &'l FirstNamed<'i, Seen>,
-    middle: &'l FirstNamed<'m, Seen>,
-    outer: &'l FirstNamed<'o, Seen>,
+pub(crate) struct Layers<'l> {
+    inner: &'l FirstNamed<'l, Seen>,
+    middle: &'l FirstNamed<'l, Seen>,
+    outer: &'l FirstNamed<'l, Seen>,
 }
 
-impl<'l, 'i, 'm, 'o> Model for Layers<'l, 'i, 'm, 'o> {
+impl<'l> Model for Layers<'l> {
     ghost use Rattle.std.specs.Prelude.{List, ◌++◌};
     ghost use Rattle.tk_validate.specs.declared.seen.Seen.{Seen};
 
@@ -38,12 +38,12 @@ fn found(seen: &FirstNamed<'_, Seen>, name: &str) -> Option<Option<ParamType>>
     }
 }
 
-impl<'l, 'i, 'm, 'o> Layers<'l, 'i, 'm, 'o> {
+impl<'l> Layers<'l> {
     /// One layer behind the other.
     pub(crate) fn new(
-        inner: &'l FirstNamed<'i, Seen>,
-        middle: &'l FirstNamed<'m, Seen>,
-        outer: &'l FirstNamed<'o, Seen>,
+        inner: &'l FirstNamed<'l, Seen>,
+        middle: &'l FirstNamed<'l, Seen>,
+        outer: &'l FirstNamed<'l, Seen>,
     ) -> Self
         ensures { result ≡ inner.now ++ (middle.now ++ outer.now) }
     {
@@ -80,16 +80,9 @@ impl<'l, 'i, 'm, 'o> Layers<'l, 'i, 'm, 'o> {
     pub(crate) fn allows(&self, name: &str, selector: &[Part<'_>]) -> bool
         ensures { result ≡ (is_in (untyped_of self.now) name.now || option_map_or (λ p. suits p.kind selector.now) (declared (filter_map typed_of self.now) name.now) true) }
     {
-        suits_known(self.kind(name), selector)
-    }
-}
-
-/// Whether a value of the type that is known may have such a selector.
-fn suits_known(kind: Option<ParamType>, selector: &[Part<'_>]) -> bool
-    ensures { result ≡ option_map_or (λ k. suits k selector.now) kind true }
-{
-    match kind {
-        Some(kind) => suits(kind, selector),
-        None => true,
+        match self.kind(name) {
+            Some(kind) => suits(kind, selector),
+            None => true,
+        }
     }
 }

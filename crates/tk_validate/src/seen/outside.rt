@@ -1,12 +1,13 @@
 ghost use Rattle.std.specs.Prelude.{◌≡◌, ◌++◌, flat_map, IfOk, OnOk};
 ghost use Rattle.tk_bind.specs.Found.{meant};
-ghost use Rattle.tk_validate.specs.Seen.{declared_seen, given_seen, kind_of_star, kind_of_target, kind_of_value, lists_seen, params_seen, pipeline_seen, seen, type_of, unless_text};
+ghost use Rattle.tk_validate.specs.Seen.{declared_seen, given_seen, kind_of_star, kind_of_target, kind_of_value, lists_seen, params_seen, pipeline_seen, seen, unless_text};
 
-use crate::named::{read, whole_of};
+use crate::named::read;
 use crate::seen::{Seen, kind_seen};
 use std::alloc::{AllocError, Global};
 use tk_bind::{Target, key_part, target_of};
 use tk_types::{FirstNamed, List, Param, ParamSpec, ParamType, PipelineSpec, Text, TryCopy, Value};
+use tk_vars::whole_of;
 
 /// A parameter that texts see.
 pub(crate) fn seen(alloc: Global, name: &Text, kind: Option<ParamType>) -> Result<Seen, AllocError>
@@ -18,29 +19,15 @@ pub(crate) fn seen(alloc: Global, name: &Text, kind: Option<ParamType>) -> Resul
     })
 }
 
-/// Adds declared parameters. The only error is want of memory.
-pub(crate) fn add_declared(
-    alloc: Global,
-    made: &mut List<Seen>,
-    params: &[ParamSpec],
-) -> Result<(), AllocError>
-    ensures { OnOk result (made.new ≡ made.old ++ declared_seen params.now) }
+/// Declared parameters. The only error is want of memory.
+pub(crate) fn declared_seen(alloc: Global, params: &[ParamSpec]) -> Result<List<Seen>, AllocError>
+    ensures { IfOk result (λ made. made ≡ declared_seen params.now) }
 {
+    let mut made = List::new(alloc);
     for param in params {
         made.push(seen(alloc, &param.name, Some(param.kind))?)?;
     }
-    Ok(())
-}
-
-/// The type of a value.
-fn type_of(value: &Value) -> ParamType
-    ensures { result ≡ type_of value.now }
-{
-    match value {
-        Value::Str(_) => ParamType::Str,
-        Value::Arr(_) => ParamType::Arr,
-        Value::Obj(_) => ParamType::Obj,
-    }
+    Ok(made)
 }
 
 /// Adds the parameters that are given to a run, whose values aren't substituted. The only error is want of memory.
@@ -52,7 +39,7 @@ pub(crate) fn add_given(
     ensures { OnOk result (made.new ≡ made.old ++ given_seen params.now) }
 {
     for param in params {
-        made.push(seen(alloc, &param.name, Some(type_of(&param.value)))?)?;
+        made.push(seen(alloc, &param.name, Some(param.value.kind()))?)?;
     }
     Ok(())
 }
@@ -65,8 +52,7 @@ pub(crate) fn pipeline_seen(
 ) -> Result<List<Seen>, AllocError>
     ensures { IfOk result (λ made. made ≡ pipeline_seen given.now pipeline.now) }
 {
-    let mut made = List::new(alloc);
-    add_declared(alloc, &mut made, pipeline.params.as_slice())?;
+    let mut made = declared_seen(alloc, pipeline.params.as_slice())?;
     add_given(alloc, &mut made, given)?;
     Ok(made)
 }

@@ -10,16 +10,16 @@ use tk_vars::{Part, Reference};
 
 /// What texts that stand somewhere may name. A contract sees the scope.
 #[derive(Drop)]
-pub(crate) struct LayeredNames<'l, 'i, 'm, 'o, 'w, 't> {
-    pub(crate) seen: Layers<'l, 'i, 'm, 'o>,
-    pub(crate) words: &'l FirstNamed<'w, Text>,
-    pub(crate) paths: &'l FirstNamed<'w, Text>,
-    pub(crate) tasks: &'l NameSet<'t>,
+pub(crate) struct LayeredNames<'l> {
+    pub(crate) seen: Layers<'l>,
+    pub(crate) words: &'l FirstNamed<'l, Text>,
+    pub(crate) paths: &'l FirstNamed<'l, Text>,
+    pub(crate) tasks: &'l NameSet<'l>,
     pub(crate) results: bool,
     pub(crate) finally_results: bool,
 }
 
-impl<'l, 'i, 'm, 'o, 'w, 't> Model for LayeredNames<'l, 'i, 'm, 'o, 'w, 't> {
+impl<'l> Model for LayeredNames<'l> {
     ghost use Rattle.tk_bind.specs.declared.scope.Scope.{Scope};
     ghost use Rattle.tk_validate.specs.Scoped.{scope_with};
 
@@ -28,7 +28,7 @@ impl<'l, 'i, 'm, 'o, 'w, 't> Model for LayeredNames<'l, 'i, 'm, 'o, 'w, 't> {
     ghost view = { λ n. scope_with n.seen n.words.now n.paths.now n.tasks.now n.results n.finally_results };
 }
 
-impl<'l, 'i, 'm, 'o, 'w, 't> Names for LayeredNames<'l, 'i, 'm, 'o, 'w, 't> {
+impl<'l> Names for LayeredNames<'l> {
     ghost scope = { λ names. names };
 
     fn has_param(&self, name: &str) -> bool {
@@ -52,7 +52,7 @@ impl<'l, 'i, 'm, 'o, 'w, 't> Names for LayeredNames<'l, 'i, 'm, 'o, 'w, 't> {
     }
 }
 
-impl<'l, 'i, 'm, 'o, 'w, 't> LayeredNames<'l, 'i, 'm, 'o, 'w, 't> {
+impl<'l> LayeredNames<'l> {
     /// The task that a reference names and that isn't there: that of a result isn't in the scope, or that of a status
     /// isn't one of these.
     pub(crate) fn unknown_of<'r, 'x>(

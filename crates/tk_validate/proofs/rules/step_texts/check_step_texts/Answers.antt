@@ -18,7 +18,7 @@ returns c =
     λ seen words paths. in_steps (text_finding [] (scope_with (seen ++ outside) words paths [] false false)) c.args.place.now spec in
     let words = c.args.context ++ keys (space_words spec.spaces) in
     subst (λ finding. Reads finding tt c.check_indexed.result)
-    (ap (λ seen. found seen c.as_slice-4.result.now c.as_slice-5.result.now) (c.as_slice-3.ensures ∙ c.in_ok-seen.ensures)
-    ∙ (ap (λ ws. found (declared_seen spec.params) ws c.as_slice-5.result.now) (c.as_slice-4.ensures ∙ (c.in_ok-words.ensures ∙ ap (λ spaces. c.args.context ++ keys (space_words spaces)) c.as_slice.ensures))
-    ∙ ap (found (declared_seen spec.params) words) (c.as_slice-5.ensures ∙ (c.in_ok-paths.ensures ∙ ap (λ results. keys (result_words results)) c.as_slice-2.ensures))))
+    (ap (λ seen. found seen c.as_slice-5.result.now c.as_slice-6.result.now) (c.as_slice-4.ensures ∙ (c.in_ok-seen.ensures ∙ ap declared_seen c.as_slice.ensures))
+    ∙ (ap (λ ws. found (declared_seen spec.params) ws c.as_slice-6.result.now) (c.as_slice-5.ensures ∙ (c.in_ok-words.ensures ∙ ap (λ spaces. c.args.context ++ keys (space_words spaces)) c.as_slice-2.ensures))
+    ∙ ap (found (declared_seen spec.params) words) (c.as_slice-6.ensures ∙ (c.in_ok-paths.ensures ∙ ap (λ results. keys (result_words results)) c.as_slice-3.ensures))))
     c.check_indexed.ensures

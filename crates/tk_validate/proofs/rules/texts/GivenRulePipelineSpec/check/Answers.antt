@@ -13,11 +13,12 @@ returns c =
     let spec = c.args.spec.now in
     let outer = pipeline_seen c.args.self.now.params.now spec in
     let firsts = names_of spec.tasks in
-    let all = c.add_names.new.names in
-    let tasks : all ≡ firsts ++ names_of spec.finally = c.in_ok-add_names.ensures ∙ ap (λ names. names ++ names_of spec.finally) c.in_ok-tasks.ensures in
+    let all = c.add_all.new.self in
+    let tasks : all ≡ firsts ++ names_of spec.finally =
+    c.in_ok-add_all.ensures ∙ (ap (λ lasts. c.in_ok-tasks.tasks ++ names_of lasts) c.as_slice-5.ensures ∙ ap (λ names. names ++ names_of spec.finally) (c.in_ok-tasks.ensures ∙ ap names_of c.as_slice-4.ensures)) in
     subst (λ finding. Reads finding tt c.check_by_names.result)
     (ap (λ o. texts_by o c.in_ok-words-2.words c.in_ok-firsts.firsts all place spec) (c.in_ok-outer.ensures ∙ (c.as_slice.ensures ∙ c.in_ok-seen.ensures))
     ∙ (ap (λ w. texts_by outer w c.in_ok-firsts.firsts all place spec) (c.in_ok-words-2.ensures ∙ (c.as_slice-2.ensures ∙ c.in_ok-words.ensures))
-    ∙ (ap (λ f. texts_by outer pipeline_context f all place spec) c.in_ok-firsts.ensures
+    ∙ (ap (λ f. texts_by outer pipeline_context f all place spec) (c.in_ok-firsts.ensures ∙ ap names_of c.as_slice-3.ensures)
     ∙ ap (λ t. texts_by outer pipeline_context firsts t place spec) tasks)))
     c.check_by_names.ensures
