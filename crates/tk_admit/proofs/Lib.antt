@@ -2,10 +2,13 @@ pub mod ChildAdded
 pub mod Children
 pub mod FactsThere
 pub mod FirstRun
+pub mod NamesAdded
 pub mod Nothing
 pub mod Owners
+pub mod Pairs
 pub mod Parts
 pub mod Refusals
+pub mod RunsApart
 pub mod Sound
 pub mod Steps
 pub mod TakenRuns

@@ -1,9 +1,10 @@
 -- Steps of loops over lists, and of checks one after another.
 use Rattle.std.proofs.Common.{◌≡◌, ℕ, ◌+◌, ◌<◌, ◌≤◌, List, [], ◌∷◌, ◌++◌, length, get_or, map, take, drop, Option, Some, None, Result, Ok, Err, refl, sym, ap, ◌∙◌, subst, add-one}
 use Rattle.std.specs.Prelude.{All, MatchOption, OnOk, option_to_list, ⊤}
+use Rattle.std.specs.List.{cons_option}
 use Rattle.std.specs.Option.{option_or}
 use Rattle.std.proofs.Math.Seq.{drop-cons}
-use Rattle.std.proofs.lemmas.List.{append-nil, at_drop_more, take_all, take_more}
+use Rattle.std.proofs.lemmas.List.{append_assoc, append-nil, at_drop_more, take_all, take_more}
 use Rattle.std.proofs.lemmas.List.Elements.{All-append, All-cons, All-head, All-more, All-nil, All-push, All-tail}
 use Rattle.tk_types.specs.declared.rejected.Rejected.{Rejected}
 use Rattle.tk_types.specs.declared.rejected.Rejected.TheVariants.{Memory, Fault}
@@ -59,6 +60,11 @@ few_of_both P xs ys (Err e) first second = tt
 pub all_optional : {X : Type 0} (P : X → Type 0) (xs new : List X) (more : Option X) → new ≡ xs ++ option_to_list more → All P xs → MatchOption more ⊤ P → All P new
 all_optional P xs new None added all here = subst (All P) (sym (added ∙ append-nil xs)) all
 all_optional P xs new (Some x) added all here = subst (All P) (sym added) (All-push P xs x all here)
+
+-- one more, if there is one, in front of the others
+pub optional_added : {X : Type 0} (xs : List X) (more : Option X) (ys : List X) → (xs ++ option_to_list more) ++ ys ≡ xs ++ cons_option more ys
+optional_added xs None ys = ap (λ zs. zs ++ ys) (append-nil xs)
+optional_added xs (Some x) ys = append_assoc xs (x ∷ []) ys
 
 -- what is found first in those that are left, each behind those before it
 pub behind_step : {X : Type 0} (check : Place → List X × X → Finding) (place : Place) (xs : List X) (i : ℕ) (x : X) → i < length xs → x ≡ get_or xs i x

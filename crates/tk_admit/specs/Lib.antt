@@ -1,4 +1,5 @@
 pub mod Admit
+pub mod Apart
 pub mod Children
 pub mod Command
 pub mod Names

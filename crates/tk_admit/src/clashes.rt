@@ -9,6 +9,7 @@ ghost use Rattle.tk_journal.specs.declared.act.Admission.TheVariants.{Run};
 ghost use Rattle.tk_types.specs.Behaviour.{tasks_of};
 ghost use Rattle.tk_admit.specs.Sound.{HasFewChildren, HasFewEach, IsSound, IsTaken};
 
+use crate::apart::are_apart;
 use crate::taken::Taken;
 use std::alloc::{AllocError, Global};
 use tk_early::RunValues;
@@ -154,11 +155,15 @@ fn clashing(alloc: Global, owners: &[&Place], earlier: u32, later: u32) -> Rejec
 }
 
 /// Refuses runs two of whose TaskRuns may have one name: the first name that stood before, by the places of both
-/// objects. More than 2^32 names are more than memory holds.
+/// objects. More than 2^32 names are more than memory holds. Where the runs' own names show that none clash, no name
+/// is made.
 pub(crate) fn check_clashes(alloc: Global, runs: &[Taken]) -> Result<(), Rejected>
     requires { All IsTaken runs.now }
     ensures { Reads (names_finding runs.now) tt result }
 {
+    if are_apart(alloc, runs)? {
+        return Ok(());
+    }
     let mut names = List::new(alloc);
     let mut owners = Vec::new(alloc);
     for run in runs {

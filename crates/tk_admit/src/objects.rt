@@ -18,7 +18,7 @@ use std::alloc::{AllocError, Global};
 use tk_early::RunValues;
 use tk_early::laws::few_children;
 use tk_journal::Admission;
-use tk_resolve::Earlier;
+use tk_resolve::Resolver;
 use tk_types::{
     Detail, Fault, Item, ItemObject, List, Location, MOST_COMBINATIONS, PipelineTask, Place,
     Rejected, RunSpec, Text, TryCopy, told,
@@ -158,17 +158,18 @@ fn check_taken(alloc: Global, run: &Option<Taken>) -> Result<(), Rejected>
 
 /// An object, behind those before it, as a run that is taken in, if it is one; it is refused where one of its kind and
 /// name stood before, or where a settled matrix of it has too many combinations.
-fn take(
+fn take<'a>(
     alloc: Global,
     before: &[Item],
-    earlier: &Earlier<'_>,
-    item: &Item,
+    earlier: &mut Resolver<'a>,
+    item: &'a Item,
 ) -> Result<Option<Taken>, Rejected>
-    requires same { earlier.now ≡ before.now }
+    requires same { earlier.old ≡ before.now }
     requires valid { All IsValid before.now }
     requires own { IsValid item.now }
     ensures found { Reads (object_finding (before.now, item.now)) (taken_of (before.now, item.now)) result }
     ensures taken { IfOk result (λ run. MatchOption run ⊤ IsTaken) }
+    ensures kept { earlier.new ≡ earlier.old }
 {
     valid_reads();
     taken_is_sound();
@@ -193,7 +194,7 @@ fn take_next<'a>(
     alloc: Global,
     runs: &mut Vec<Taken>,
     before: &[Item],
-    earlier: &mut Earlier<'a>,
+    earlier: &mut Resolver<'a>,
     item: &'a Item,
 ) -> Result<(), Rejected>
     requires same { earlier.old ≡ before.now }
@@ -205,7 +206,7 @@ fn take_next<'a>(
     ensures runs { OnOk result (runs.new.items ≡ runs.old.items ++ option_to_list (taken_of (before.now, item.now))) }
     ensures taken { OnOk result (All IsTaken runs.new.items) }
 {
-    let run = take(alloc, before, &*earlier, item)?;
+    let run = take(alloc, before, earlier, item)?;
     push_run(runs, run)?;
     earlier.add(alloc, item)?;
     Ok(())
@@ -220,7 +221,7 @@ pub(crate) fn take_all(alloc: Global, items: &[Item]) -> Result<Vec<Taken>, Reje
     ensures runs { IfOk result (λ runs. runs.items ≡ taken items.now) }
     ensures taken { IfOk result (λ runs. All IsTaken runs.items) }
 {
-    let mut earlier = Earlier::new(alloc);
+    let mut earlier = Resolver::new(alloc);
     let mut runs = Vec::new(alloc);
     for (index, item) in items.iter().enumerate() {
         take_next(alloc, &mut runs, &items[..index], &mut earlier, item)?;

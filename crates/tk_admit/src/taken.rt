@@ -6,7 +6,7 @@ ghost use Rattle.tk_admit.specs.Taken.{asked_of as asked_of_object, is_pending a
 
 use std::alloc::{AllocError, Global};
 use tk_journal::Admission;
-use tk_resolve::{Earlier, resolve_run, resolve_task};
+use tk_resolve::Resolver;
 use tk_types::{Asked, Item, ItemObject, Place, TryCopy};
 
 /// A run of the input that is taken in, with all that it refers to: the place of its object, whether it waits for its
@@ -20,20 +20,19 @@ pub struct Taken {
 }
 
 /// A run with all that it refers to among the earlier objects, if the object is one.
-fn resolved(
+fn resolved<'a>(
     alloc: Global,
-    earlier: &Earlier<'_>,
-    object: &ItemObject,
+    earlier: &mut Resolver<'a>,
+    object: &'a ItemObject,
 ) -> Result<Option<Admission>, AllocError>
     requires own { ReadsObject object.now }
-    requires earlier { All (λ (i : I). ReadsObject i.object) earlier.now }
-    ensures { IfOk result (λ spec. spec ≡ resolved_object earlier.now object.now) }
+    requires earlier { All (λ (i : I). ReadsObject i.object) earlier.old }
+    ensures resolved { IfOk result (λ spec. spec ≡ resolved_object earlier.old object.now) }
+    ensures kept { earlier.new ≡ earlier.old }
 {
     match object {
-        ItemObject::PipelineRun(run) => {
-            Ok(Some(Admission::Run(resolve_run(alloc, run, earlier)?)))
-        }
-        ItemObject::TaskRun(run) => Ok(Some(Admission::Task(resolve_task(alloc, run, earlier)?))),
+        ItemObject::PipelineRun(run) => Ok(Some(Admission::Run(earlier.run(alloc, run)?))),
+        ItemObject::TaskRun(run) => Ok(Some(Admission::Task(earlier.task(alloc, run)?))),
         _ => Ok(None),
     }
 }
@@ -71,14 +70,15 @@ fn asked_by(cancelled: bool) -> Option<Asked>
 }
 
 /// An object as a run that is taken in, if it is one.
-pub(crate) fn taken_item(
+pub(crate) fn taken_item<'a>(
     alloc: Global,
-    earlier: &Earlier<'_>,
-    item: &Item,
+    earlier: &mut Resolver<'a>,
+    item: &'a Item,
 ) -> Result<Option<Taken>, AllocError>
     requires own { ReadsObject item.now.object }
-    requires earlier { All (λ (i : I). ReadsObject i.object) earlier.now }
-    ensures { IfOk result (λ run. run ≡ taken_of (earlier.now, item.now)) }
+    requires earlier { All (λ (i : I). ReadsObject i.object) earlier.old }
+    ensures run { IfOk result (λ run. run ≡ taken_of (earlier.old, item.now)) }
+    ensures kept { earlier.new ≡ earlier.old }
 {
     match resolved(alloc, earlier, &item.object)? {
         Some(spec) => Ok(Some(Taken {

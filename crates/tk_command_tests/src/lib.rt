@@ -1,4 +1,6 @@
 //! The commands over benches, sources and sinks in memory: tables of words and inputs, and what they come to.
+//!
+//! `rows.rt` plays rows of text over a bench in memory: the words, the input and what is answered.
 #![tactic(auto)]
 
 #[cfg(test)]

@@ -99,6 +99,21 @@ simulate
 
 simulate
 {@list, "items": [
+    {"apiVersion": "tekton.dev/v1", "kind": "Pipeline", "metadata": {"name": "p"}, "spec": {"params": [{"name": "x"}], "tasks": [{"name": "a", @step, "when": [{"input": "$(params.x)", "operator": "in", "values": ["go"]}]}]}},
+    {"apiVersion": "tekton.dev/v1", "kind": "PipelineRun", "metadata": {"name": "r1"}, "spec": {"pipelineRef": {"name": "p"}, "params": [{"name": "x", "value": "go"}]}},
+    {"apiVersion": "tekton.dev/v1", "kind": "PipelineRun", "metadata": {"name": "r2"}, "spec": {"pipelineRef": {"name": "p"}, "params": [{"name": "x", "value": "go"}]}},
+    {"apiVersion": "tekton.dev/v1", "kind": "PipelineRun", "metadata": {"name": "r3"}, "spec": {"pipelineRef": {"name": "p"}, "params": [{"name": "x", "value": "no"}]}},
+    {"apiVersion": "tekton.dev/v1", "kind": "PipelineRun", "metadata": {"name": "r4"}, "spec": {"pipelineRef": {"name": "p"}}}]}
+=> 1 pipelinerun r1 True Succeeded
+  taskrun r1-a a 0 Succeeded attempts 1
+pipelinerun r2 True Succeeded
+  taskrun r2-a a 0 Succeeded attempts 1
+pipelinerun r3 True Completed
+  skipped a When Expressions evaluated to false
+pipelinerun r4 False ParameterMissing
+
+simulate
+{@list, "items": [
     {"apiVersion": "tekton.dev/v1", "kind": "Task", "metadata": {"name": "t"}, "spec": {"steps": [{"command": ["true"]}], "params": [{"name": "x"}]}},
     {@run, "spec": {"pipelineSpec": {"tasks": [{"name": "a", "taskRef": {"name": "t"}}]}}}]}
 => 1 pipelinerun r False ParameterMissing

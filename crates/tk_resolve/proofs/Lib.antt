@@ -7,11 +7,13 @@ pub mod Found
 pub mod FoundPipeline
 pub mod Gathered
 pub mod Judged
+pub mod KnownStays
 pub mod LookedUp
 pub mod Misused
 pub mod PassedOver
 pub mod Readings
 pub mod ResolvedRuns
+pub mod SameGiven
 pub mod Sources
 pub mod Started
 pub mod Zipped

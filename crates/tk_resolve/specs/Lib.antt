@@ -1,5 +1,6 @@
 pub mod Asks
 pub mod Due
+pub mod Known
 pub mod Laws
 pub mod Lookup
 pub mod Misuse

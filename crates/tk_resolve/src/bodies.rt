@@ -193,8 +193,8 @@ impl<'r> RunIndex<'r> {
     }
 }
 
-/// The bodies of all tasks of a run, those of `finally` behind the others, where each is found. The only error is want of
-/// memory.
+/// The bodies of all tasks of a run, those of `finally` behind the others, where each is found; copies share them. The only
+/// error is want of memory.
 pub(crate) fn bodies_of(
     alloc: Global,
     earlier: &Earlier<'_>,
@@ -204,5 +204,8 @@ pub(crate) fn bodies_of(
     ensures { IfOk result (λ bodies. bodies ≡ bodies_of earlier.now run.now pipeline.now) }
 {
     let index = RunIndex::new(alloc, run, pipeline)?;
-    index.bodies(alloc, earlier)
+    match index.bodies(alloc, earlier)? {
+        Some(bodies) => Ok(Some(bodies.share(alloc)?)),
+        None => Ok(None),
+    }
 }

@@ -12,7 +12,7 @@ use tk_types::{Item, ItemObject, PipelineSpec, TaskSpec};
 /// The objects that stand earlier in an input, of which the Tasks and the Pipelines are found by their names; of equal
 /// names the first counts. A contract sees the objects, in their order.
 #[derive(Drop)]
-pub struct Earlier<'a> {
+pub(crate) struct Earlier<'a> {
     items: Vec<&'a Item>,
     tasks: HashMap<&'a str, KnownTask<'a>>,
     pipelines: HashMap<&'a str, &'a PipelineSpec>,
@@ -36,7 +36,7 @@ impl<'a> Model for Earlier<'a> {
 
 impl<'a> Earlier<'a> {
     /// No object.
-    pub fn new(alloc: Global) -> Self
+    pub(crate) fn new(alloc: Global) -> Self
         ensures { result ≡ [] }
     {
         Earlier {
@@ -48,7 +48,7 @@ impl<'a> Earlier<'a> {
 
     /// Adds the object that stands next; of a Task what its texts ask is found. The only error is want of memory, and
     /// nothing is added then.
-    pub fn add(&mut self, alloc: Global, item: &'a Item) -> Result<(), AllocError>
+    pub(crate) fn add(&mut self, alloc: Global, item: &'a Item) -> Result<(), AllocError>
         ensures added { OnOk result (self.new ≡ self.old ++ item.now ∷ []) }
         ensures kept { OnErr result (self.new ≡ self.old) }
     {

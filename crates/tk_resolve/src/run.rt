@@ -63,14 +63,8 @@ fn without_pipeline(alloc: Global, run: &RunObject) -> Result<RunSpec, AllocErro
     unstartable(alloc, run, params, Reason::CouldntGetPipeline)
 }
 
-/// A PipelineRun with the Pipeline that it refers to among the objects that stand earlier, or with its own spec, the
-/// bodies of all tasks and the values that its parameters take (Tekton, PipelineRuns, Specifying the target Pipeline).
-///
-/// A run that can't start is a value like any other, and has no tasks, bodies and results: its `start` has the first
-/// reason that holds, which is `CouldntGetPipeline`, `CouldntGetTask`, `ParameterMissing`, `ParameterTypeMismatch`,
-/// `InvalidTaskResultReference` or `InvalidWorkspaceBindings`, in this order (Tekton, PipelineRuns, Monitoring execution
-/// status). The only error is want of memory.
-pub fn resolve_run(
+/// A PipelineRun with all that it refers to. The only error is want of memory.
+pub(crate) fn resolve_run(
     alloc: Global,
     run: &RunObject,
     earlier: &Earlier<'_>,

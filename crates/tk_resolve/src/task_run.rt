@@ -137,13 +137,8 @@ fn with_task(
     task_run_with(alloc, run, body, reason)
 }
 
-/// A standalone TaskRun with the Task that it refers to among the objects that stand earlier, or with its own spec
-/// (Tekton, TaskRuns, Specifying the target Task).
-///
-/// A TaskRun that can't start is a value like any other: its `start` has the first reason that holds, which is
-/// `CouldntGetTask`, `ParameterMissing`, `ParameterTypeMismatch` or `InvalidWorkspaceBindings`, in this order. One whose
-/// Task isn't found has an empty spec. The only error is want of memory.
-pub fn resolve_task(
+/// A standalone TaskRun with all that it refers to. The only error is want of memory.
+pub(crate) fn resolve_task(
     alloc: Global,
     run: &TaskRunObject,
     earlier: &Earlier<'_>,

@@ -14,7 +14,7 @@ check_taken-requires c =
     let before = c.args.before.now in
     let item = c.args.item.now in
     λ run is.
-    let found : taken_of (before, item) ≡ Some run = ap (λ items. taken_of (items, item)) (sym c.requires.same) ∙ (sym c.in_ok-run.ensures ∙ is) in
+    let found : taken_of (before, item) ≡ Some run = ap (λ items. taken_of (items, item)) (sym c.requires.same) ∙ (sym c.in_ok-run.ensures.run ∙ is) in
     c.taken_is_sound.ensures before item run.spec c.requires.valid c.requires.own (taken_spec before item run found)
 
 pub returns-in_err-check_taken-clause-found : goal.returns-in_err-check_taken-clause-found
@@ -25,7 +25,7 @@ returns-in_err-check_taken-clause-found c =
     let same = same_name_finding before item in
     let matrix = option_and_then (matrix_finding item.place) (resolved before item.object) in
     let is : option_and_then (λ (t : Taken). matrix_finding t.place t.spec) c.in_ok-run.run' ≡ matrix
-    = ap (option_and_then (λ (t : Taken). matrix_finding t.place t.spec)) (c.in_ok-run.ensures ∙ ap (λ items. taken_of (items, item)) c.requires.same) ∙ taken_matrix before item in
+    = ap (option_and_then (λ (t : Taken). matrix_finding t.place t.spec)) (c.in_ok-run.ensures.run ∙ ap (λ items. taken_of (items, item)) c.requires.same) ∙ taken_matrix before item in
     let result = c.from_residual-in_err-check_taken in
     let p = err_from_is_err_and result.result result.ensures.1 in
     rw (p.1, p.2)
