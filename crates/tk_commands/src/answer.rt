@@ -155,7 +155,7 @@ pub fn too_long_answer(alloc: Global) -> Result<Answer, AllocError>
     ensures journal { IfOk result (λ answer. answer.journal.history ≡ []) }
 {
     let fault = Fault {
-        number: 22,
+        number: Fault::TOO_LONG,
         place: Place::root(alloc),
         detail: Detail::Nothing,
     };

@@ -1,7 +1,7 @@
 ghost use Rattle.std.specs.Prelude.{◌≡◌, ◌==◌, ◌<◌, ◌⊎◌, ◌↔◌, if◌then◌else◌, true, [], None, IfOk};
 ghost use Rattle.std.specs.Option.{ForSome};
 ghost use Rattle.tk_edge.specs.Causes.{raised, Counts};
-ghost use Rattle.tk_commands.specs.Plain.{is_answer, IsReadDue, Prints, PrintsFront, PrintsReadFront};
+ghost use Rattle.tk_commands.specs.Plain.{is_answer, IsReadDue, Prints, PrintsFront, PrintsReadFront, Talks};
 ghost use Rattle.tk_commands.specs.Command.{command_of as command_of_words};
 
 use crate::answer::{Answer, answer_of, too_long_answer};
@@ -105,17 +105,7 @@ pub fn plain<R: Source, W: Sink>(
     input: &mut R,
     sink: &mut W,
 ) -> Ended
-    ensures known { result.status < 8 }
-    ensures nothing_ran { (result.status ≡ 2) ⊎ (result.status ≡ 4) ⊎ (result.status ≡ 6) → result.journal.history ≡ [] }
-    ensures words { (result.status ≡ 2) ↔ (command_of_words words.now ≡ None) }
-    ensures words_read_nothing { result.status ≡ 2 → input.new ≡ input.old }
-    ensures words_write_nothing { result.status ≡ 2 → sink.new ≡ sink.old }
-    ensures answer { is_answer result.status ≡ true → ForSome (command_of_words words.now) (λ command. Prints command (R.left input.old) (R.ended input.new) (W.written sink.old) (W.written sink.new) result.status result.journal.history) }
-    ensures input_faults { R.faults input.new ≡ (if result.status == 4 then raised (R.faults input.old) else R.faults input.old) }
-    ensures input_failed_writes_nothing { result.status ≡ 4 → sink.new ≡ sink.old }
-    ensures sink_faults { W.faults sink.new ≡ (if result.status == 5 then raised (W.faults sink.old) else W.faults sink.old) }
-    ensures sink_failed_front { result.status ≡ 5 → ForSome (command_of_words words.now) (λ command. PrintsReadFront command (R.left input.old) (R.ended input.new) (W.written sink.old) (W.written sink.new) result.journal.history) }
-    ensures memory_front { result.status ≡ 6 → ForSome (command_of_words words.now) (λ command. PrintsFront command (R.left input.old) (W.written sink.old) (W.written sink.new)) }
+    ensures { Talks R.left R.ended R.faults W.written W.faults (command_of_words words.now) input.old input.new sink.old sink.new result.status result.journal.history }
 {
     if command_of(words).is_none() {
         return end_with(alloc, 2);

@@ -3,6 +3,11 @@
 //! `specs/Due.antt`, over what `tk_admit` admits of them: the line of the first fault, the number of objects, or the lines
 //! of a run that is decided; what `simulate` answers is defined in `specs/Answer.antt`, over the journal that `tk_simulate`
 //! plays; what `run` comes to in `specs/Run.antt`, over the journal that `tk_run` brings about.
+//!
+//! `answer.rt` has what is due for the bytes, `due.rt` its lines, `command.rt` the words, `input.rt` and `output.rt`
+//! read and write all, `carrying.rt` puts them together; `run_line.rt` has the words of `run`, `top.rt` what it
+//! answers, `generate_words.rt` and `generate.rt` the same of `generate`, and `unready.rt` finds what is admitted and
+//! can't start.
 #![tactic(auto)]
 
 mod answer;

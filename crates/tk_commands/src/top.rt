@@ -9,7 +9,7 @@ ghost use Rattle.tk_commands.specs.Command.{command_of as command_of_words};
 ghost use Rattle.tk_commands.specs.Generate.{IsGenerated};
 ghost use Rattle.tk_commands.specs.GenerateWords.{generate_of};
 ghost use Rattle.tk_commands.specs.declared.generate_words.Generation.{Generation as Wanted};
-ghost use Rattle.tk_commands.specs.Plain.{is_answer, Prints, PrintsFront, PrintsReadFront};
+ghost use Rattle.tk_commands.specs.Plain.{is_answer, Talks};
 ghost use Rattle.tk_commands.specs.Run.{CountsRun, IsCutShort, IsDueOf, IsRunAnswer, IsRunDue, IsUsage, LeftBy, PrintsFrontOf, PrintsOne, RunsSoFar, RunsSoFarOf};
 ghost use Rattle.tk_commands.specs.RunWords.{run_of, run_options};
 ghost use Rattle.tk_commands.specs.declared.run_line.RunOptions.{RunOptions as Options};
@@ -187,8 +187,6 @@ pub fn tkn<T: Wait, R: Source, W: Sink, K: Clock, H: Host, G: Gate>(
     ensures usage { IsUsage (run_of words.now) (generate_of words.now) (command_of_words words.now) → ((result.status ≡ 2) ⊎ (result.status ≡ 6)) × (input.new ≡ input.old) × (sink.new ≡ sink.old) × (bench.new ≡ bench.old) × (result.journal.history ≡ []) }
     // usage comes of nothing else
     ensures usage_alone { result.status ≡ 2 → IsUsage (run_of words.now) (generate_of words.now) (command_of_words words.now) }
-    // words of another command than `run` that are usage come to nothing else
-    ensures words { run_of words.now ≡ None → generate_of words.now ≡ None → ((result.status ≡ 2) ↔ (command_of_words words.now ≡ None)) }
     // a read fault comes only of the source: then nothing was written or run
     ensures input_faults { R.faults input.new ≡ (if result.status == 4 then raised (R.faults input.old) else R.faults input.old) }
     ensures input_failed { result.status ≡ 4 → (sink.new ≡ sink.old) × (bench.new ≡ bench.old) × (result.journal.history ≡ []) }
@@ -207,12 +205,9 @@ pub fn tkn<T: Wait, R: Source, W: Sink, K: Clock, H: Host, G: Gate>(
     // for 5 a front of it, and for 6 too, or nothing
     ensures generate_sink_failed { (wanted : Wanted) → generate_of words.now ≡ Some (Some wanted) → result.status ≡ 5 → PrintsFrontOf (IsGenerated wanted) (W.written sink.old) (W.written sink.new) result.journal.history }
     ensures generate_memory { (wanted : Wanted) → generate_of words.now ≡ Some (Some wanted) → result.status ≡ 6 → ((sink.new ≡ sink.old) × (result.journal.history ≡ [])) ⊎ PrintsFrontOf (IsGenerated wanted) (W.written sink.old) (W.written sink.new) result.journal.history }
-    // every other command is `plain`'s, clause by clause, and leaves the bench as it is
+    // every other command is `plain`'s, and leaves the bench as it is
     ensures bench_alone { run_of words.now ≡ None → bench.new ≡ bench.old }
-    ensures nothing_ran { run_of words.now ≡ None → generate_of words.now ≡ None → (result.status ≡ 2) ⊎ (result.status ≡ 4) ⊎ (result.status ≡ 6) → result.journal.history ≡ [] }
-    ensures answer { run_of words.now ≡ None → generate_of words.now ≡ None → is_answer result.status ≡ true → ForSome (command_of_words words.now) (λ command. Prints command (R.left input.old) (R.ended input.new) (W.written sink.old) (W.written sink.new) result.status result.journal.history) }
-    ensures sink_failed_front { run_of words.now ≡ None → generate_of words.now ≡ None → result.status ≡ 5 → ForSome (command_of_words words.now) (λ command. PrintsReadFront command (R.left input.old) (R.ended input.new) (W.written sink.old) (W.written sink.new) result.journal.history) }
-    ensures memory_front { run_of words.now ≡ None → generate_of words.now ≡ None → result.status ≡ 6 → ForSome (command_of_words words.now) (λ command. PrintsFront command (R.left input.old) (W.written sink.old) (W.written sink.new)) }
+    ensures plain { run_of words.now ≡ None → generate_of words.now ≡ None → Talks R.left R.ended R.faults W.written W.faults (command_of_words words.now) input.old input.new sink.old sink.new result.status result.journal.history }
 {
     match words {
         [word, ..] if word.as_str() == "run" => {
