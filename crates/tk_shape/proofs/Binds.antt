@@ -21,7 +21,7 @@ use Rattle.tk_shape.proofs.References.{named_same}
 use Rattle.tk_shape.proofs.Puts.{put_all_keys}
 use Rattle.tk_shape.proofs.Selected.{is_some-text_at, kind_same}
 
-completed_same : (value : Value) (own : Option Value) → shape_of (completed value own) ≡ completed_shape (shape_of value) (option_map shape_of own)
+pub completed_same : (value : Value) (own : Option Value) → shape_of (completed value own) ≡ completed_shape (shape_of value) (option_map shape_of own)
 completed_same (Str text) own = refl
 completed_same (Arr texts) own = refl
 completed_same (Obj pairs) None = refl
@@ -45,7 +45,7 @@ map-or f (Some x) b = refl
 or_same : {X Y : Type 0} (f : X → Y) (a b : Option X) (c d : Option Y) → option_map f a ≡ c → option_map f b ≡ d → option_map f (option_or a b) ≡ option_or c d
 or_same f a b c d first rest = map-or f a b ∙ ap₂ option_or first rest
 
-first_same : (wanted : ParamSpec) (given outer fallback : List Param) → option_map shape_of (first_value wanted given outer fallback) ≡ first_shape wanted (shapes_of given) (shapes_of outer) (shapes_of fallback)
+pub first_same : (wanted : ParamSpec) (given outer fallback : List Param) → option_map shape_of (first_value wanted given outer fallback) ≡ first_shape wanted (shapes_of given) (shapes_of outer) (shapes_of fallback)
 first_same wanted given outer fallback =
     or_same shape_of (value_named wanted.name given) (option_or (value_named wanted.name outer) (option_or wanted.default_value (value_named wanted.name fallback))) (shape_named wanted.name (shapes_of given)) (option_or (shape_named wanted.name (shapes_of outer)) (option_or (default_shape wanted) (shape_named wanted.name (shapes_of fallback))))
     (named_same wanted.name given)
@@ -80,7 +80,7 @@ bound_by : (wanted : ParamSpec) (found : Option Value)
 bound_by wanted None = refl
 bound_by wanted (Some value) = bound_to_same wanted value
 
-param_same : (given outer fallback : List Param) (wanted : ParamSpec) → on_ok param_shape (bound_param given outer fallback wanted) ≡ bound_shape (shapes_of given) (shapes_of outer) (shapes_of fallback) wanted
+pub param_same : (given outer fallback : List Param) (wanted : ParamSpec) → on_ok param_shape (bound_param given outer fallback wanted) ≡ bound_shape (shapes_of given) (shapes_of outer) (shapes_of fallback) wanted
 param_same given outer fallback wanted =
     bound_by wanted (first_value wanted given outer fallback)
     ∙ ap (λ (o : Option Shape). elim o [ None ↦ Err (Missing wanted.name) | Some shape ↦ bound_to_shape wanted shape ]) (first_same wanted given outer fallback)
