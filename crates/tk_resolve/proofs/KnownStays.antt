@@ -15,9 +15,10 @@ use Rattle.tk_types.specs.declared.object.PipelineSpec.{PipelineSpec}
 use Rattle.tk_types.specs.declared.object.RunObject.{RunObject}
 use Rattle.tk_resolve.specs.declared.known_run.KnownRun.{KnownRun}
 use Rattle.tk_resolve.specs.Known.{IsKnownRun}
-use Rattle.tk_resolve.specs.Lookup.{as_pipeline, as_task, task_named, named}
+use Rattle.tk_resolve.specs.Lookup.{as_pipeline, as_task, task_named, named, pipeline_named}
 use Rattle.tk_resolve.specs.Run.{all_tasks, body_of}
 use Rattle.tk_resolve.specs.Spaces.{handed_spaces}
+use Rattle.tk_resolve.specs.TaskRun.{spec_of}
 use Rattle.tk_resolve.proofs.Found.{named_append}
 
 -- what is found among these objects is found with more behind them
@@ -29,6 +30,13 @@ named_stays : {X : Type 0} (given : Item → Option (List ℕ × X)) (earlier mo
 named_stays given earlier more name x is =
     ap (named name) (filter_map-append given earlier more)
     ∙ (named_append name (filter_map given earlier) (filter_map given more) ∙ first_stays (named name (filter_map given earlier)) (named name (filter_map given more)) x is)
+
+pub pipeline_stays : (earlier more : List Item) (name : List ℕ) (pipeline : PipelineSpec) → pipeline_named earlier name ≡ Some pipeline → pipeline_named (earlier ++ more) name ≡ Some pipeline
+pipeline_stays earlier more name pipeline is = named_stays (λ (i : Item). as_pipeline i.object) earlier more name pipeline is
+
+pub spec_stays : (earlier more : List Item) (source : TaskSource) (spec : TaskSpec) → spec_of earlier source ≡ Some spec → spec_of (earlier ++ more) source ≡ Some spec
+spec_stays earlier more (Named name) spec is = named_stays (λ (i : Item). as_task i.object) earlier more name spec is
+spec_stays earlier more (Inlined own) spec is = is
 
 -- bodies
 made_stays : {X Y : Type 0} (f : X → Y) (before after : Option X) (y : Y) → ((x : X) → before ≡ Some x → after ≡ Some x) → option_map f before ≡ Some y → option_map f after ≡ Some y
@@ -58,30 +66,31 @@ bodies_stay earlier more run pipeline (task ∷ tasks) bodies is =
     (map (λ (t : PipelineTask). body_of earlier run pipeline t t.source) tasks) (map (λ (t : PipelineTask). body_of (earlier ++ more) run pipeline t t.source) tasks) bodies
     (body_stays earlier more run pipeline task task.source) (bodies_stay earlier more run pipeline tasks) is
 
-pub known_stays : (earlier more : List Item) (name : List ℕ) (run : RunObject) (bodies : List TaskBody) → IsKnownRun earlier name run bodies → IsKnownRun (earlier ++ more) name run bodies
-known_stays earlier more name run bodies known =
+pub known_stays : (earlier more : List Item) (name : List ℕ) (known : KnownRun) → IsKnownRun earlier name known → IsKnownRun (earlier ++ more) name known
+known_stays earlier more name known is =
     record {
-      pipeline = known.pipeline;
-      named = named_stays (λ (i : Item). as_pipeline i.object) earlier more name known.pipeline known.named;
-      single = known.single;
-      found = bodies_stay earlier more run known.pipeline (all_tasks known.pipeline) bodies known.found;
-      starts = known.starts;
+      pipeline = is.pipeline;
+      named = pipeline_stays earlier more name is.pipeline is.named;
+      single = is.single;
+      found = bodies_stay earlier more known.run.now is.pipeline (all_tasks is.pipeline) known.bodies is.found;
+      starts = is.starts;
+      alone = is.alone;
     }
 
 -- so once an object was added, or nothing was
-pub added_known : {E : Type 0} (before now : List Item) (item : Item) (name : List ℕ) (run : RunObject) (bodies : List TaskBody) (result : Result (Unit {0}) E) → OnOk result (now ≡ before ++ item ∷ []) → OnErr result (now ≡ before)
-    → IsKnownRun before name run bodies → IsKnownRun now name run bodies
-added_known before now item name run bodies (Ok done) added kept known = subst (λ (items : List Item). IsKnownRun items name run bodies) (sym added) (known_stays before (item ∷ []) name run bodies known)
-added_known before now item name run bodies (Err error) added kept known = subst (λ (items : List Item). IsKnownRun items name run bodies) (sym kept) known
+pub added_known : {E : Type 0} (before now : List Item) (item : Item) (name : List ℕ) (known : KnownRun) (result : Result (Unit {0}) E) → OnOk result (now ≡ before ++ item ∷ []) → OnErr result (now ≡ before)
+    → IsKnownRun before name known → IsKnownRun now name known
+added_known before now item name known (Ok done) added kept is = subst (λ (items : List Item). IsKnownRun items name known) (sym added) (known_stays before (item ∷ []) name known is)
+added_known before now item name known (Err error) added kept is = subst (λ (items : List Item). IsKnownRun items name known) (sym kept) is
 
 -- of what is found under a name once a run is kept under one
-pub kept_known : (earlier : List Item) (key name : List ℕ) (run : KnownRun) (old : Option KnownRun) (new : Option KnownRun) → IsKnownRun earlier key run.run.now run.bodies
-    → ((x : KnownRun) → old ≡ Some x → IsKnownRun earlier name x.run.now x.bodies) → new ≡ (if bytes_eq key name then Some run else old) → (x : KnownRun) → new ≡ Some x → IsKnownRun earlier name x.run.now x.bodies
-kept_known earlier key name run old new known others is x found = by (bytes_eq key name) refl (sym is ∙ found)
+pub kept_known : (earlier : List Item) (key name : List ℕ) (known : KnownRun) (old : Option KnownRun) (new : Option KnownRun) → IsKnownRun earlier key known
+    → ((x : KnownRun) → old ≡ Some x → IsKnownRun earlier name x) → new ≡ (if bytes_eq key name then Some known else old) → (x : KnownRun) → new ≡ Some x → IsKnownRun earlier name x
+kept_known earlier key name known old new is_known others is x found = by (bytes_eq key name) refl (sym is ∙ found)
   where
-    by : (b : Bool) → bytes_eq key name ≡ b → (if b then Some run else old) ≡ Some x → IsKnownRun earlier name x.run.now x.bodies
+    by : (b : Bool) → bytes_eq key name ≡ b → (if b then Some known else old) ≡ Some x → IsKnownRun earlier name x
     by true same e =
-        let one : run ≡ x = cc in
-        subst (λ (k : KnownRun). IsKnownRun earlier name k.run.now k.bodies) one
-        (subst (λ (n : List ℕ). IsKnownRun earlier n run.run.now run.bodies) ((bytes_eq-Decides key name).0 same) known)
+        let one : known ≡ x = cc in
+        subst (λ (k : KnownRun). IsKnownRun earlier name k) one
+        (subst (λ (n : List ℕ). IsKnownRun earlier n known) ((bytes_eq-Decides key name).0 same) is_known)
     by false same e = others x e

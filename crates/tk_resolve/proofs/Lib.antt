@@ -6,6 +6,8 @@ pub mod Examples
 pub mod Found
 pub mod FoundPipeline
 pub mod Gathered
+pub mod GivenAlike
+pub mod GivenShapes
 pub mod Judged
 pub mod KnownStays
 pub mod LookedUp
@@ -13,7 +15,6 @@ pub mod Misused
 pub mod PassedOver
 pub mod Readings
 pub mod ResolvedRuns
-pub mod SameGiven
 pub mod Sources
 pub mod Started
 pub mod Zipped

@@ -16,13 +16,14 @@ use Rattle.tk_types.specs.Lists.{all_some}
 use Rattle.tk_bind.specs.Readings.{ReadsObject, ReadsParam, ReadsPipelineSource, ReadsPipelineTask, ReadsStep, ReadsTaskSource, ReadsTaskSpec}
 use Rattle.tk_resolve.specs.declared.reason.Reason.{Reason}
 use Rattle.tk_resolve.specs.declared.reason.Reason.TheVariants.{CouldntGetPipeline, CouldntGetTask}
-use Rattle.tk_resolve.specs.Laws.{HasItsTasks, HasNoTasks, HasOneBodyEach, ReadsRunSpec}
+use Rattle.tk_resolve.specs.Laws.{HasItsTasks, HasNoTasks, HasOneBodyEach, ReadsRunSpec, RunsItsTasks}
 use Rattle.tk_early.specs.Words.{first_env}
 use Rattle.tk_resolve.specs.Run.{all_tasks, bodies_of, body_of, env_with, first_reason, pipeline_of, resolved_run, run_with_bodies, run_with_pipeline, startable, task_words, unstartable}
 use Rattle.tk_resolve.specs.TaskRun.{body_with, first_reason as first_task_reason, no_spec, resolved_task_run, spec_of, task_run_with}
 use Rattle.tk_resolve.specs.Values.{all_values}
 use Rattle.tk_resolve.proofs.BodiesRead.{bodies_read, pipeline_reads}
 use Rattle.tk_resolve.proofs.LookedUp.{spec_reads}
+use Rattle.tk_resolve.proofs.Sources.{sources_found}
 
 -- step by step
 by_reason : (P : RunSpec → Type 0) (run : RunObject) (pipeline : PipelineSpec) (bodies : List TaskBody) (params : List Param) (found : Option Reason)
@@ -90,6 +91,13 @@ one_body_each earlier run =
     (λ pipeline bodies is are.
     let body : PipelineTask → Option TaskBody = λ t. body_of earlier run pipeline t t.source in
     all_some-length (map body (all_tasks pipeline)) bodies are ∙ (length-map (all_tasks pipeline) body ∙ length-append pipeline.tasks pipeline.finally))
+
+-- what each task runs
+pub specs_found : (earlier : List Item) (run : RunObject) → RunsItsTasks earlier (resolved_run earlier run)
+specs_found earlier run =
+    each_resolved (RunsItsTasks earlier) earlier run
+    (λ params reason. All-nil (λ (t : PipelineTask × TaskBody). spec_of earlier t.0.source ≡ Some t.1.spec))
+    (λ pipeline bodies is are. sources_found earlier run pipeline bodies are)
 
 -- texts
 pub run_reads : (earlier : List Item) (run : RunObject) → ReadsPipelineSource run.source → All (λ (i : Item). ReadsObject i.object) earlier → ReadsRunSpec (resolved_run earlier run)

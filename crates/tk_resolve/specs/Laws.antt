@@ -1,5 +1,8 @@
 -- What holds of resolved runs.
 use Rattle.std.specs.Prelude.{◌≡◌, ◌+◌, ◌⊎◌, ℕ, List, [], ◌++◌, Some, All, Contains, length}
+use Rattle.std.specs.List.{zip}
+use Rattle.tk_types.specs.Behaviour.{tasks_of}
+use Rattle.tk_types.specs.declared.task.PipelineTask.{PipelineTask}
 use Rattle.tk_types.specs.declared.task.TaskBody.{TaskBody}
 use Rattle.tk_types.specs.declared.run.RunSpec.{RunSpec}
 use Rattle.tk_types.specs.declared.object.Item.{Item}
@@ -11,6 +14,7 @@ use Rattle.tk_types.specs.declared.object.PipelineSpec.{PipelineSpec}
 use Rattle.tk_types.specs.declared.object.RunObject.{RunObject}
 use Rattle.tk_bind.specs.Readings.{ReadsParams, ReadsPipelineTask, ReadsTaskSpec}
 use Rattle.tk_resolve.specs.Run.{pipeline_of}
+use Rattle.tk_resolve.specs.TaskRun.{spec_of}
 
 -- the run has nothing to do
 pub record HasNoTasks (spec : RunSpec) : Type 0 where
@@ -32,6 +36,10 @@ HasItsTasks earlier run spec = (pipeline : PipelineSpec) × (pipeline_of earlier
 -- it has one body a task
 abbrev pub HasOneBodyEach : RunSpec → Type 0
 HasOneBodyEach spec = length spec.bodies ≡ length spec.tasks + length spec.finally
+
+-- each of its tasks runs the spec that its source names
+abbrev pub RunsItsTasks : List Item → RunSpec → Type 0
+RunsItsTasks earlier spec = All (λ (t : PipelineTask × TaskBody). spec_of earlier t.0.source ≡ Some t.1.spec) (zip (tasks_of spec) spec.bodies)
 
 -- each of its texts has a reading
 pub record ReadsRunSpec (spec : RunSpec) : Type 0 where

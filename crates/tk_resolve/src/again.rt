@@ -1,15 +1,18 @@
-ghost use Rattle.std.specs.Prelude.{◌≡◌, All, IfOk, IsTrue, None};
+ghost use Rattle.std.specs.Prelude.{◌≡◌, ℕ, List as L, All, IfOk, IsTrue, Some};
 ghost use Rattle.std.specs.Option.{ForSome};
 ghost use Rattle.tk_types.specs.declared.object.Item.{Item as I};
 ghost use Rattle.tk_types.specs.declared.object.PipelineSource.TheVariants.{Named};
 ghost use Rattle.tk_types.specs.declared.run.RunSpec.{RunSpec as S};
 ghost use Rattle.tk_types.specs.declared.run.Start.TheVariants.{Ready};
 ghost use Rattle.tk_bind.specs.Readings.{ReadsObject, ReadsPipelineSource};
-ghost use Rattle.tk_resolve.specs.Known.{IsKnownRun, IsSingle};
-ghost use Rattle.tk_resolve.specs.Run.{all_tasks, resolved_run, startable};
+ghost use Rattle.tk_resolve.specs.Known.{AreGivenAlike, IsKnownRun, IsSingle, RunsTask};
+ghost use Rattle.tk_resolve.specs.Lookup.{pipeline_named};
+ghost use Rattle.tk_resolve.specs.Run.{all_tasks, bodies_of, resolved_run, startable};
 ghost use Rattle.tk_resolve.specs.Values.{all_values};
 
-use crate::known_run::{are_given_the_same, are_single};
+use crate::alike::are_given_alike;
+use crate::bodies::bodies_of;
+use crate::known_run::{KnownRun, are_named, are_single};
 use crate::resolver::Resolver;
 use crate::run::resolve_run;
 use crate::spec::startable;
@@ -30,6 +33,13 @@ fn started_with(
     startable(alloc, run, pipeline, params, bodies.copy(alloc)?)
 }
 
+/// Whether each of the tasks of a Pipeline runs an earlier Task.
+fn is_alone(pipeline: &PipelineSpec) -> bool
+    ensures { IsTrue result → All RunsTask (all_tasks pipeline.now) }
+{
+    are_named(pipeline.tasks.as_slice()) && are_named(pipeline.finally.as_slice())
+}
+
 /// Whether none of the tasks of a Pipeline has a matrix.
 fn is_single(pipeline: &PipelineSpec) -> bool
     ensures { IsTrue result → All IsSingle (all_tasks pipeline.now) }
@@ -38,7 +48,25 @@ fn is_single(pipeline: &PipelineSpec) -> bool
 }
 
 impl<'a> Resolver<'a> {
-    /// A run that is given the same as a known one of its Pipeline: it can start, with the same bodies.
+    /// The bodies of a run that is given alike as a known one of its Pipeline, if they are found.
+    fn bodies_again(
+        &self,
+        alloc: Global,
+        known: &KnownRun<'a>,
+        run: &RunObject,
+        pipeline: &PipelineSpec,
+    ) -> Result<Option<List<TaskBody>>, AllocError>
+        requires known { (name : L ℕ) × IsKnownRun self.now name known.now × (pipeline_named self.now name ≡ Some pipeline.now) }
+        requires alike { AreGivenAlike known.now.run.now run.now }
+        ensures { IfOk result (λ bodies. bodies_of self.now run.now pipeline.now ≡ bodies) }
+    {
+        if known.has_bodies_of(run) {
+            return Ok(Some(known.bodies.copy(alloc)?));
+        }
+        bodies_of(alloc, &self.earlier, run, pipeline)
+    }
+
+    /// A run that is given alike as a known one of its Pipeline: it can start, and its values aren't judged.
     fn again(&self, alloc: Global, run: &RunObject) -> Result<Option<RunSpec>, AllocError>
         ensures { IfOk result (λ spec. ForSome spec (λ (s : S). s ≡ resolved_run self.now run.now)) }
     {
@@ -51,10 +79,13 @@ impl<'a> Resolver<'a> {
         let Some(pipeline) = self.earlier.pipeline(name.as_str()) else {
             return Ok(None);
         };
-        if !are_given_the_same(known.run, run) {
+        if !are_given_alike(known.run, run) {
             return Ok(None);
         }
-        Ok(Some(started_with(alloc, run, pipeline, &known.bodies)?))
+        match self.bodies_again(alloc, known, run, pipeline)? {
+            Some(bodies) => Ok(Some(started_with(alloc, run, pipeline, &bodies)?)),
+            None => Ok(None),
+        }
     }
 
     /// Keeps a run that can start, if it names a Pipeline without a matrix.
@@ -69,7 +100,12 @@ impl<'a> Resolver<'a> {
             return Ok(());
         };
         if matches!(spec.start, Start::Ready) && is_single(pipeline) {
-            return self.keep(name.as_str(), run, spec.bodies.copy(alloc)?);
+            let known = KnownRun {
+                run,
+                bodies: spec.bodies.copy(alloc)?,
+                alone: is_alone(pipeline),
+            };
+            return self.keep(name.as_str(), known);
         }
         Ok(())
     }
@@ -80,8 +116,8 @@ impl<'a> Resolver<'a> {
     /// A run that can't start is a value like any other, and has no tasks, bodies and results: its `start` has the first
     /// reason that holds, which is `CouldntGetPipeline`, `CouldntGetTask`, `ParameterMissing`, `ParameterTypeMismatch`,
     /// `InvalidTaskResultReference` or `InvalidWorkspaceBindings`, in this order (Tekton, PipelineRuns, Monitoring execution
-    /// status). A run that is given the same as one before it of its Pipeline isn't judged again. The only error is want of
-    /// memory.
+    /// status). A run that is given values of the same shapes and the same workspaces as one before it of its Pipeline isn't
+    /// judged again. The only error is want of memory.
     pub fn run(&mut self, alloc: Global, run: &'a RunObject) -> Result<RunSpec, AllocError>
         requires own { ReadsPipelineSource run.now.source }
         requires earlier { All (λ (i : I). ReadsObject i.object) self.old }

@@ -9,14 +9,16 @@ ghost use Rattle.tk_types.specs.declared.object.RunObject.{RunObject};
 ghost use Rattle.tk_types.specs.declared.object.TaskRunObject.{TaskRunObject};
 ghost use Rattle.tk_bind.specs.Readings.{ReadsObject, ReadsPipelineSource, ReadsTaskSource, ReadsTaskSpec};
 ghost use Rattle.tk_early.specs.Words.{first_env};
-ghost use Rattle.tk_resolve.specs.Laws.{HasItsTasks, HasNoTasks, HasOneBodyEach, IsSourceOf, ReadsRunSpec};
+ghost use Rattle.tk_resolve.specs.Laws.{HasItsTasks, HasNoTasks, HasOneBodyEach, IsSourceOf, ReadsRunSpec, RunsItsTasks};
 ghost use Rattle.tk_resolve.specs.Run.{env_with, pipeline_of, resolved_run, task_words};
 ghost use Rattle.tk_resolve.specs.TaskRun.{resolved_task_run};
 
-/// A resolved run has no tasks and no results, or those of its pipeline, and it has one body a task.
+/// A resolved run has no tasks and no results, or those of its pipeline, and it has one body a task, which has the spec
+/// that the task's source names.
 pub fn resolved_tasks()
     ensures alike { (earlier : List Item) (run : RunObject) → HasNoTasks (resolved_run earlier run) ⊎ HasItsTasks earlier run (resolved_run earlier run) }
     ensures bodies { (earlier : List Item) (run : RunObject) → HasOneBodyEach (resolved_run earlier run) }
+    ensures specs { (earlier : List Item) (run : RunObject) → RunsItsTasks earlier (resolved_run earlier run) }
 {}
 
 /// Where each text of a run and of the objects that stand earlier has a reading, so has each text of the resolved run.

@@ -3,8 +3,8 @@
 //! become those that hold. A run that can't start has the first reason that holds, and no tasks.
 //!
 //! `resolver.rt` has `Resolver`, to which objects are added and which resolves the next: what was found of a run is found
-//! of the next that is given the same (`again.rt`, over `known_run.rt` and `same.rt`; `specs/Known.antt`). `lookup.rt` has
-//! `Earlier`, the Tasks and Pipelines that stand earlier by their names.
+//! of the next that is given values of the same shapes and the same workspaces (`again.rt`, over `known_run.rt`, `alike.rt`
+//! and `same.rt`; `specs/Known.antt`). `lookup.rt` has `Earlier`, the Tasks and Pipelines that stand earlier by their names.
 //! `values.rt`, `spaces.rt` and `timeouts.rt` give parameters, workspaces and timeouts, `bodies.rt` the bodies of
 //! tasks, `admission.rt` what texts see at admission. `due.rt` lists the texts with what is due where each stands,
 //! `uses.rt` asks a question (`questions.rt`, `misuse.rt`) of all their references, but for texts that the question
@@ -18,6 +18,7 @@
 
 mod admission;
 mod again;
+mod alike;
 mod asks;
 mod beside;
 mod bodies;

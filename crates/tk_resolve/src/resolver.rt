@@ -10,10 +10,10 @@ use crate::task_run::resolve_task;
 use std::alloc::{AllocError, Global};
 use std::collections::HashMap;
 use std::marker::Model;
-use tk_types::{Item, List, RunObject, TaskBody, TaskRunObject, TaskRunSpec};
+use tk_types::{Item, TaskRunObject, TaskRunSpec};
 
 /// The objects that stand earlier in an input, and of each Pipeline without a matrix the last run that names it and can start:
-/// what was found of it is found of the next that is given the same. A contract sees the objects, in their order.
+/// what was found of it is found of the next that is given values of the same shapes. A contract sees the objects, in their order.
 #[derive(Drop)]
 pub struct Resolver<'a> {
     pub(crate) earlier: Earlier<'a>,
@@ -33,7 +33,7 @@ impl<'a> Model for Resolver<'a> {
     ghost view = { λ resolver. resolver.earlier };
 
     ghost invariant = { λ resolver. (name : Items ℕ)
-        → ForSome (get_by (λ k. bytes_eq name k.now) resolver.known) (λ (k : K). IsKnownRun resolver.earlier name k.run.now k.bodies) };
+        → ForSome (get_by (λ k. bytes_eq name k.now) resolver.known) (λ (k : K). IsKnownRun resolver.earlier name k) };
 }
 
 impl<'a> Resolver<'a> {
@@ -56,17 +56,12 @@ impl<'a> Resolver<'a> {
         self.earlier.add(alloc, item)
     }
 
-    /// Keeps a run that can start, with its bodies, under the name of its Pipeline. The only error is want of memory.
-    pub(crate) fn keep(
-        &mut self,
-        name: &'a str,
-        run: &'a RunObject,
-        bodies: List<TaskBody>,
-    ) -> Result<(), AllocError>
-        requires { IsKnownRun self.old name.now run.now bodies }
+    /// Keeps a run that can start under the name of its Pipeline. The only error is want of memory.
+    pub(crate) fn keep(&mut self, name: &'a str, known: KnownRun<'a>) -> Result<(), AllocError>
+        requires { IsKnownRun self.old name.now known }
         ensures { self.new ≡ self.old }
     {
-        self.known.insert(name, KnownRun { run, bodies })?;
+        self.known.insert(name, known)?;
         Ok(())
     }
 

@@ -3,4 +3,4 @@ use Rattle.tk_resolve.proofs.resolver.Resolver.add.Goals as goal
 
 pub invariant_of-self : goal.invariant_of-self
 invariant_of-self c = λ name x found.
-    added_known c.self.inside.earlier c.add.new.self c.args.item.now name x.run.now x.bodies c.add.result c.add.ensures.added c.add.ensures.kept (c.self.invariant name x found)
+    added_known c.self.inside.earlier c.add.new.self c.args.item.now name x c.add.result c.add.ensures.added c.add.ensures.kept (c.self.invariant name x found)
