@@ -3,11 +3,13 @@ pub mod Children
 pub mod FactsThere
 pub mod FirstRun
 pub mod NamesAdded
+pub mod Measured
 pub mod Nothing
 pub mod Owners
 pub mod Pairs
 pub mod Parts
 pub mod Refusals
+pub mod RunSizes
 pub mod RunsApart
 pub mod Sound
 pub mod Steps

@@ -2,6 +2,7 @@ pub mod Admit
 pub mod Apart
 pub mod Children
 pub mod Command
+pub mod Measure
 pub mod Names
 pub mod Objects
 pub mod Sound

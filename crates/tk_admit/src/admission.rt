@@ -71,14 +71,14 @@ fn admit_items(
 {
     check_count(alloc, items)?;
     validate_all(alloc, items)?;
-    let runs = take_all(alloc, items)?;
-    check_clashes(alloc, runs.as_slice())?;
-    let weight = weight(alloc, asks, items, runs.as_slice())?;
+    let taken = take_all(alloc, items)?;
+    check_clashes(alloc, taken.runs.as_slice(), taken.whole)?;
+    let weight = weight(asks, items, &taken);
     check_weight(alloc, weight)?;
-    let outcomes = command_facts(alloc, kinds, items, runs.as_slice())?;
+    let outcomes = command_facts(alloc, kinds, items, taken.runs.as_slice())?;
     let scenario = the_scenario(alloc, items)?;
     Ok(Admitted {
-        entries: entries(alloc, root, runs)?,
+        entries: entries(alloc, root, taken.runs)?,
         weight,
         scenario,
         outcomes,

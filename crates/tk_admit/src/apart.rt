@@ -1,5 +1,5 @@
 ghost use Rattle.std.specs.Prelude.{◌≡◌, ◌++◌, All, IfOk, OnOk, IsTrue, None};
-ghost use Rattle.tk_admit.specs.Apart.{Differ, HasNoFront, HasWholeName, HasWholeNames, pipeline_run_name, pipeline_run_names, standalone_name, standalone_names};
+ghost use Rattle.tk_admit.specs.Apart.{Differ, HasNoFront, HasWholeNames, pipeline_run_name, pipeline_run_names, standalone_name, standalone_names};
 ghost use Rattle.tk_admit.specs.Names.{names_finding};
 ghost use Rattle.tk_admit.specs.Sound.{IsTaken};
 ghost use Rattle.tk_admit.specs.Taken.{run_name};
@@ -8,37 +8,7 @@ ghost use Rattle.tk_admit.specs.declared.taken.Taken.{Taken as T};
 use crate::taken::Taken;
 use std::alloc::{AllocError, Global};
 use tk_journal::Admission;
-use tk_types::{NameSet, PipelineTask};
-
-/// Whether a task has one child, whose name isn't shortened.
-fn has_whole_name(run: &str, task: &PipelineTask) -> bool
-    ensures { IsTrue result → HasWholeName run.now task.now }
-{
-    task.matrix.is_none() && run.len().saturating_add(task.name.len()) < 63
-}
-
-/// Whether the children of a run have whole names, if it is a PipelineRun.
-fn has_whole_names(run: &Admission) -> bool
-    ensures { IsTrue result → HasWholeNames run.now }
-{
-    match run {
-        Admission::Run(spec) => {
-            let run = spec.name.as_str();
-            let tasks = spec.tasks.as_slice();
-            let finally = spec.finally.as_slice();
-            tasks.iter().all(|task| has_whole_name(run, task))
-                && finally.iter().all(|task| has_whole_name(run, task))
-        }
-        Admission::Task(_) => true,
-    }
-}
-
-/// Whether the children of each PipelineRun have whole names.
-fn have_whole_names(runs: &[Taken]) -> bool
-    ensures { IsTrue result → All (λ (run : T). HasWholeNames run.spec) runs.now }
-{
-    runs.iter().all(|run| has_whole_names(&run.spec))
-}
+use tk_types::NameSet;
 
 /// Adds the name of a PipelineRun, and tells whether it is new.
 #[tactic(auto, using(crate::proofs::NamesAdded::differ_more))]
@@ -112,16 +82,18 @@ fn have_no_fronts(names: &NameSet<'_>, runs: &[Taken]) -> bool
     })
 }
 
-/// Whether the runs' own names show that no two of their TaskRuns can share a name. No name is made: each task is looked
-/// at once, and each front of a run's name that ends before a `-` is looked up once. The only error is want of memory.
+/// Whether the runs' own names show that no two of their TaskRuns can share a name, where the children of each are seen
+/// to have whole names. No name is made: each front of a run's name that ends before a `-` is looked up once. The only
+/// error is want of memory.
 #[tactic(auto, using(crate::proofs::RunsApart::no_clash))]
-pub(crate) fn are_apart(alloc: Global, runs: &[Taken]) -> Result<bool, AllocError>
-    requires { All IsTaken runs.now }
+pub(crate) fn are_apart(alloc: Global, runs: &[Taken], whole: bool) -> Result<bool, AllocError>
+    requires taken { All IsTaken runs.now }
+    requires whole { IsTrue whole → All (λ (run : T). HasWholeNames run.spec) runs.now }
     ensures { IfOk result (λ apart. IsTrue apart → names_finding runs.now ≡ None) }
 {
     let mut names = NameSet::new(alloc);
     Ok(
-        have_whole_names(runs)
+        whole
             && add_pipeline_runs(&mut names, runs)?
             && have_no_fronts(&names, runs)
             && standalone_differ(alloc, runs)?,

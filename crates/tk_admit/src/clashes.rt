@@ -1,13 +1,15 @@
-ghost use Rattle.std.specs.Prelude.{◌≡◌, ℕ, ◌≤◌, ◌<◌, List as L, ◌++◌, All, OnOk, Some, flat_map, length, map, replicate};
+ghost use Rattle.std.specs.Prelude.{◌≡◌, ℕ, ◌≤◌, ◌<◌, List as L, ◌++◌, All, IsTrue, OnOk, Some, flat_map, length, map, replicate};
 ghost use Rattle.std.specs.Option.{ForSome};
 ghost use Rattle.tk_types.specs.Rejected.{IsRefusal, Reads};
 ghost use Rattle.tk_bind.specs.Readings.{ReadsPipelineTask};
 ghost use Rattle.tk_names.specs.Children.{child_names as child_names_of};
 ghost use Rattle.tk_journal.specs.Names.{task_run_names, task_names as names_of_task};
+ghost use Rattle.tk_admit.specs.Apart.{HasWholeNames};
 ghost use Rattle.tk_admit.specs.Names.{clash_of, names_finding};
 ghost use Rattle.tk_journal.specs.declared.act.Admission.TheVariants.{Run};
 ghost use Rattle.tk_types.specs.Behaviour.{tasks_of};
 ghost use Rattle.tk_admit.specs.Sound.{HasFewChildren, HasFewEach, IsSound, IsTaken};
+ghost use Rattle.tk_admit.specs.declared.taken.Taken.{Taken as T};
 
 use crate::apart::are_apart;
 use crate::taken::Taken;
@@ -157,11 +159,12 @@ fn clashing(alloc: Global, owners: &[&Place], earlier: u32, later: u32) -> Rejec
 /// Refuses runs two of whose TaskRuns may have one name: the first name that stood before, by the places of both
 /// objects. More than 2^32 names are more than memory holds. Where the runs' own names show that none clash, no name
 /// is made.
-pub(crate) fn check_clashes(alloc: Global, runs: &[Taken]) -> Result<(), Rejected>
-    requires { All IsTaken runs.now }
+pub(crate) fn check_clashes(alloc: Global, runs: &[Taken], whole: bool) -> Result<(), Rejected>
+    requires taken { All IsTaken runs.now }
+    requires whole { IsTrue whole → All (λ (run : T). HasWholeNames run.spec) runs.now }
     ensures { Reads (names_finding runs.now) tt result }
 {
-    if are_apart(alloc, runs)? {
+    if are_apart(alloc, runs, whole)? {
         return Ok(());
     }
     let mut names = List::new(alloc);

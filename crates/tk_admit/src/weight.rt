@@ -1,22 +1,21 @@
 ghost use Rattle.std.specs.Prelude.{◌≡◌, ℕ, All, IfOk, sum_by};
 ghost use Rattle.std.specs.List.{zip};
-ghost use Rattle.tk_admit.specs.declared.taken.Taken.{Taken as R};
-ghost use Rattle.tk_journal.specs.declared.act.Admission.TheVariants.{Run};
+ghost use Rattle.tk_journal.specs.declared.act.Admission.TheVariants.{Run, Task};
 ghost use Rattle.tk_types.specs.Rejected.{Reads};
 ghost use Rattle.tk_bind.specs.Readings.{ReadsPipelineTask};
 ghost use Rattle.tk_early.specs.Possible.{told_count};
 ghost use Rattle.tk_types.specs.Behaviour.{tasks_of};
-ghost use Rattle.tk_admit.specs.Sound.{IsSound, IsSoundRun, IsTaken};
+ghost use Rattle.tk_admit.specs.Measure.{IsTallied};
+ghost use Rattle.tk_admit.specs.Sound.{IsSoundRun};
 ghost use Rattle.tk_journal.specs.Weight.{child_weight as weight_of_child, run_weight as weight_of_run, task_weight as weight_of_task};
 ghost use Rattle.tk_admit.specs.Weight.{asks_of as asks_of_item, is_ask as is_ask_event, object_asks as asks_of_object, weight as weight_of, weight_finding};
 
-use crate::taken::Taken;
+use crate::objects::TakenRuns;
 use std::alloc::{AllocError, Global};
 use tk_early::RunValues;
-use tk_journal::Admission;
 use tk_types::{
     Detail, Event, Fault, Item, ItemObject, Location, MOST_WEIGHT, PipelineTask, Rejected, RunSpec,
-    TaskBody, told,
+    TaskBody, TaskRunSpec, told,
 };
 
 /// The weight of a TaskRun with these retries and this body.
@@ -61,7 +60,7 @@ fn tasks_weight(alloc: Global, spec: &RunSpec) -> Result<u64, AllocError>
 }
 
 /// The weight of a PipelineRun.
-fn pipeline_weight(alloc: Global, spec: &RunSpec) -> Result<u64, AllocError>
+pub(crate) fn pipeline_weight(alloc: Global, spec: &RunSpec) -> Result<u64, AllocError>
     requires { IsSoundRun spec.now }
     ensures { IfOk result (λ weight. weight ≡ told_count (weight_of_run (Run spec.now))) }
 {
@@ -71,27 +70,11 @@ fn pipeline_weight(alloc: Global, spec: &RunSpec) -> Result<u64, AllocError>
     Ok(own.saturating_add(tasks_weight(alloc, spec)?))
 }
 
-/// The weight of a run.
-fn run_weight(alloc: Global, admission: &Admission) -> Result<u64, AllocError>
-    requires { IsSound admission.now }
-    ensures { IfOk result (λ weight. weight ≡ told_count (weight_of_run admission.now)) }
+/// The weight of a standalone TaskRun.
+pub(crate) fn task_run_weight(spec: &TaskRunSpec) -> u64
+    ensures { result ≡ told_count (weight_of_run (Task spec.now)) }
 {
-    match admission {
-        Admission::Run(spec) => pipeline_weight(alloc, spec),
-        Admission::Task(spec) => Ok(child_weight(spec.retries, &spec.body).saturating_add(1)),
-    }
-}
-
-/// The weight of all runs.
-fn runs_weight(alloc: Global, runs: &[Taken]) -> Result<u64, AllocError>
-    requires { All IsTaken runs.now }
-    ensures { IfOk result (λ weight. weight ≡ told_count (sum_by (λ (run : R). weight_of_run run.spec) runs.now)) }
-{
-    let mut total: u64 = 0;
-    for run in runs {
-        total = total.saturating_add(run_weight(alloc, &run.spec)?);
-    }
-    Ok(total)
+    child_weight(spec.retries, &spec.body).saturating_add(1)
 }
 
 /// Whether an event asks something of a run.
@@ -129,17 +112,12 @@ fn all_asks(items: &[Item]) -> u64
 }
 
 /// The weight of an input with these asks besides those of its Scenarios; above 64 bits it is the greatest number.
-pub(crate) fn weight(
-    alloc: Global,
-    asks: u32,
-    items: &[Item],
-    runs: &[Taken],
-) -> Result<u64, AllocError>
-    requires { All IsTaken runs.now }
-    ensures { IfOk result (λ weight. weight ≡ told_count (weight_of asks items.now runs.now)) }
+pub(crate) fn weight(asks: u32, items: &[Item], runs: &TakenRuns) -> u64
+    requires { IsTallied runs.now }
+    ensures { result ≡ told_count (weight_of asks items.now runs.now.runs.items) }
 {
     let asked = u64::from(asks).saturating_add(all_asks(items));
-    Ok(asked.saturating_add(runs_weight(alloc, runs)?))
+    asked.saturating_add(runs.weight)
 }
 
 /// Refuses a weight that is too great.

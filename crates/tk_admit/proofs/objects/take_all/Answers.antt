@@ -15,7 +15,7 @@ loop-index-preserved c =
     let items = c.args.items.now in
     let i = c.loop-index.index in
     let item = c.index-items-index.result in
-    let runs = c.loop-index.runs.items in
+    let runs = c.loop-index.runs.runs.items in
     let lt : i < length items = search rules in
     let more : take (i + 1) items ≡ take i items ++ item ∷ [] = take_more items i item lt ∙ ap (λ (x : Item). take i items ++ x ∷ []) (sym c.index-items-index.is) in
     let rest : drop i items ≡ item ∷ drop (i + 1) items = drop_more items i item lt ∙ ap (λ (x : Item). x ∷ drop (i + 1) items) (sym c.index-items-index.is) in
@@ -33,5 +33,5 @@ loop-index-preserved c =
           ap (λ (made : List Taken). made ++ filter_map taken_of left) c.in_ok-take_next.ensures.runs
           ∙ (optional_added runs (taken_of (take i items, item)) (filter_map taken_of left)
           ∙ (sym (ap (λ (each : List (List Item × Item)). runs ++ filter_map taken_of each) step) ∙ c.loop-index.invariant.made));
-      sound = c.in_ok-take_next.ensures.taken;
+      tallied = c.in_ok-take_next.ensures.tallied;
     }

@@ -1,8 +1,8 @@
 use Rattle.std.proofs.Common.{◌≡◌, ◌++◌, map, take, drop}
-use Rattle.std.specs.Prelude.{All, filter_map}
+use Rattle.std.specs.Prelude.{filter_map}
 use Rattle.tk_types.specs.First.{first_of}
 use Rattle.tk_admit.specs.Objects.{object_finding, objects_finding}
-use Rattle.tk_admit.specs.Sound.{IsTaken}
+use Rattle.tk_admit.specs.Measure.{IsTallied}
 use Rattle.tk_admit.specs.Taken.{behind, taken, taken_of}
 use Rattle.tk_admit.proofs.objects.take_all.Given as goal
 
@@ -12,6 +12,6 @@ invariant-loop-index l =
     record {
       earlier : l.earlier ≡ take l.index l.items;
       found : first_of (map object_finding (behind (take l.index l.items) (drop l.index l.items))) ≡ objects_finding l.items;
-      made : l.runs.items ++ filter_map taken_of (behind (take l.index l.items) (drop l.index l.items)) ≡ taken l.items;
-      sound : All IsTaken l.runs.items;
+      made : l.runs.runs.items ++ filter_map taken_of (behind (take l.index l.items) (drop l.index l.items)) ≡ taken l.items;
+      tallied : IsTallied l.runs;
     }

@@ -6,7 +6,7 @@ use Rattle.tk_bind.specs.Readings.{ReadsPipelineTask}
 use Rattle.tk_admit.specs.Objects.{task_oversize}
 use Rattle.tk_admit.specs.Sound.{HasFewChildren}
 use Rattle.tk_admit.proofs.Steps.{all_first, all_second, few_of_both, first_of_both, none_first, refused_first}
-use Rattle.tk_admit.proofs.objects.check_both.Goals as goal
+use Rattle.tk_admit.proofs.matrices.check_both.Goals as goal
 
 pub check_tasks-requires : goal.check_tasks-requires
 check_tasks-requires c = all_first ReadsPipelineTask c.args.tasks.now c.args.finally.now c.requires

@@ -2,7 +2,7 @@ use Rattle.std.proofs.Common.{sym, ◌∙◌}
 use Rattle.tk_admit.specs.Objects.{task_oversize}
 use Rattle.tk_admit.specs.Sound.{HasFewChildren}
 use Rattle.tk_admit.proofs.Steps.{all_done, all_step, first_step}
-use Rattle.tk_admit.proofs.objects.check_tasks.Goals as goal
+use Rattle.tk_admit.proofs.matrices.check_tasks.Goals as goal
 
 pub loop-task-preserved : goal.loop-task-preserved
 loop-task-preserved c =

@@ -3,7 +3,7 @@ use Rattle.std.specs.Prelude.{All}
 use Rattle.tk_types.specs.First.{first_of}
 use Rattle.tk_admit.specs.Objects.{task_oversize}
 use Rattle.tk_admit.specs.Sound.{HasFewChildren}
-use Rattle.tk_admit.proofs.objects.check_tasks.Given as goal
+use Rattle.tk_admit.proofs.matrices.check_tasks.Given as goal
 
 -- what is wrong first with the tasks that are left is what is wrong first with all, and those so far have few children
 abbrev pub invariant-loop-task : goal.invariant-loop-task

@@ -1,7 +1,7 @@
 use Rattle.std.proofs.Common.{◌≡◌, ◌++◌, subst}
 use Rattle.std.specs.Prelude.{All, OnOk}
 use Rattle.tk_admit.specs.Sound.{HasFewChildren}
-use Rattle.tk_admit.proofs.objects.check_run.Goals as goal
+use Rattle.tk_admit.proofs.matrices.check_run.Goals as goal
 
 pub returns-clause-few : goal.returns-clause-few
 returns-clause-few c =
