@@ -114,6 +114,18 @@ pipelinerun r4 False ParameterMissing
 
 simulate
 {@list, "items": [
+    {"apiVersion": "tekton.dev/v1", "kind": "Pipeline", "metadata": {"name": "p"}, "spec": {"params": [{"name": "l", "type": "array"}], "tasks": [{"name": "a", @step, "when": [{"input": "$(params.l[1])", "operator": "in", "values": ["go"]}]}]}},
+    {"apiVersion": "tekton.dev/v1", "kind": "PipelineRun", "metadata": {"name": "r1"}, "spec": {"pipelineRef": {"name": "p"}, "params": [{"name": "l", "value": ["u", "go"]}]}},
+    {"apiVersion": "tekton.dev/v1", "kind": "PipelineRun", "metadata": {"name": "r2"}, "spec": {"pipelineRef": {"name": "p"}, "params": [{"name": "l", "value": ["v", "no"]}]}},
+    {"apiVersion": "tekton.dev/v1", "kind": "PipelineRun", "metadata": {"name": "r3"}, "spec": {"pipelineRef": {"name": "p"}, "params": [{"name": "l", "value": ["w"]}]}}]}
+=> 1 pipelinerun r1 True Succeeded
+  taskrun r1-a a 0 Succeeded attempts 1
+pipelinerun r2 True Completed
+  skipped a When Expressions evaluated to false
+pipelinerun r3 False ParameterMissing
+
+simulate
+{@list, "items": [
     {"apiVersion": "tekton.dev/v1", "kind": "Task", "metadata": {"name": "t"}, "spec": {"steps": [{"command": ["true"]}], "params": [{"name": "x"}]}},
     {@run, "spec": {"pipelineSpec": {"tasks": [{"name": "a", "taskRef": {"name": "t"}}]}}}]}
 => 1 pipelinerun r False ParameterMissing
