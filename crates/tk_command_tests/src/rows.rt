@@ -10,6 +10,7 @@ ghost use Rattle.tk_run.specs.Begun.{IsNewBench, IsNewController, IsNewNode};
 use std::alloc::{AllocError, Global};
 use std::process::Abort;
 use std::sync::Wait;
+use std::thread::Threads;
 use std::test::Fail;
 use tk_commands::{Ended, plain, tkn};
 use tk_edge::{CleanHost, Fresh, Host, ManualClock, MemSink, MemSource, Sink, Source};
@@ -113,7 +114,7 @@ fn told(alloc: Global, status: u8, printed: &[u8]) -> Result<String, AllocError>
 }
 
 /// What words come to over sources and sinks in memory. What `tkn` promises of it stays here.
-pub(crate) fn ran<T: Wait>(
+pub(crate) fn ran<T: Threads + Wait + Sync>(
     rt: &T,
     alloc: Global,
     words: &[Text],
@@ -137,7 +138,7 @@ pub(crate) fn carried_out<R: Source, W: Sink>(
 }
 
 /// What words come to with an input, of which a read or a write may fail, as a row tells it.
-pub(crate) fn answered<T: Wait>(
+pub(crate) fn answered<T: Threads + Wait + Sync>(
     rt: &T,
     alloc: Global,
     words: &[Text],
@@ -152,7 +153,7 @@ pub(crate) fn answered<T: Wait>(
 }
 
 /// What a row's first part comes to: its words, what fails, and its input.
-fn answered_row<T: Wait>(rt: &T, alloc: Global, given: &str) -> Result<String, AllocError> {
+fn answered_row<T: Threads + Wait + Sync>(rt: &T, alloc: Global, given: &str) -> Result<String, AllocError> {
     let (line, input) = given.split_once('\n').unwrap_or((given, ""));
     let (line, fails) = line.split_once(" | ").unwrap_or((line, ""));
     let words = words(alloc, line)?;
@@ -160,7 +161,7 @@ fn answered_row<T: Wait>(rt: &T, alloc: Global, given: &str) -> Result<String, A
 }
 
 /// Whether each row of a table comes to what it tells.
-pub(crate) fn rows_hold<T: Wait + Abort>(rt: &T, alloc: Global, table: &str) -> Result<(), Fail> {
+pub(crate) fn rows_hold<T: Threads + Wait + Sync + Abort>(rt: &T, alloc: Global, table: &str) -> Result<(), Fail> {
     for row in table.split("\n\n") {
         let (given, wanted) = row.split_once("\n=> ").unwrap_or((row, "no answer"));
         let told = answered_row(rt, alloc, given)?;

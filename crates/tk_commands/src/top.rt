@@ -24,6 +24,7 @@ use crate::printing::print;
 use crate::run_line::{RunOptions, run_words};
 use std::alloc::{AllocError, Global};
 use std::sync::Wait;
+use std::thread::Threads;
 use tk_edge::{Clock, Gate, Host, Sink, Source};
 use tk_journal::Journal;
 use tk_rounds::Bench;
@@ -43,7 +44,12 @@ fn due_of(alloc: Global, json: bool, ran: &Ran) -> Result<Due, AllocError>
 }
 
 /// What is answered for the bytes of an input that is run on a bench; or else, where there is no memory, the journal so far.
-fn run_answer<T: Wait, K: Clock, H: Host, G: Gate>(
+fn run_answer<
+    T: Threads + Wait + Sync,
+    K: Clock + Drop + Send,
+    H: Host + Drop + Send,
+    G: Gate + Drop + Send,
+>(
     rt: &T,
     alloc: Global,
     options: &RunOptions,
@@ -83,7 +89,13 @@ enum Unrun {
 }
 
 /// Reads an input to its end, and runs it on a bench.
-fn read_and_run<T: Wait, R: Source, K: Clock, H: Host, G: Gate>(
+fn read_and_run<
+    T: Threads + Wait + Sync,
+    R: Source,
+    K: Clock + Drop + Send,
+    H: Host + Drop + Send,
+    G: Gate + Drop + Send,
+>(
     rt: &T,
     alloc: Global,
     options: &RunOptions,
@@ -111,7 +123,14 @@ fn read_and_run<T: Wait, R: Source, K: Clock, H: Host, G: Gate>(
 }
 
 /// Runs an input on a bench, and writes what is due.
-fn run_input<T: Wait, R: Source, W: Sink, K: Clock, H: Host, G: Gate>(
+fn run_input<
+    T: Threads + Wait + Sync,
+    R: Source,
+    W: Sink,
+    K: Clock + Drop + Send,
+    H: Host + Drop + Send,
+    G: Gate + Drop + Send,
+>(
     rt: &T,
     alloc: Global,
     options: &RunOptions,
@@ -141,7 +160,14 @@ fn run_input<T: Wait, R: Source, W: Sink, K: Clock, H: Host, G: Gate>(
 }
 
 /// Runs an input by the words behind `run`.
-fn run_command<T: Wait, R: Source, W: Sink, K: Clock, H: Host, G: Gate>(
+fn run_command<
+    T: Threads + Wait + Sync,
+    R: Source,
+    W: Sink,
+    K: Clock + Drop + Send,
+    H: Host + Drop + Send,
+    G: Gate + Drop + Send,
+>(
     rt: &T,
     alloc: Global,
     words: &[Text],
@@ -172,7 +198,14 @@ fn run_command<T: Wait, R: Source, W: Sink, K: Clock, H: Host, G: Gate>(
 /// words say at their times; `generate` prints the manifest of a number and a size, or with `--run` simulates it and prints what
 /// its journal comes to; every other command is `plain`'s. Those leave the bench as it is. The statuses of `run` are those of
 /// `simulate`; where memory runs out, all that still runs is killed, and the journal so far is answered.
-pub fn tkn<T: Wait, R: Source, W: Sink, K: Clock, H: Host, G: Gate>(
+pub fn tkn<
+    T: Threads + Wait + Sync,
+    R: Source,
+    W: Sink,
+    K: Clock + Drop + Send,
+    H: Host + Drop + Send,
+    G: Gate + Drop + Send,
+>(
     rt: &T,
     alloc: Global,
     words: &[Text],

@@ -12,9 +12,10 @@ ghost use Rattle.tk_run.specs.Going.{GoesOn, IsReady};
 use crate::asks::{AskWord, Asking, all_tried, ask_due};
 use std::alloc::{AllocError, Global};
 use std::sync::Wait;
+use std::thread::Threads;
 use tk_cache::Cache;
 use tk_edge::{Clock, Gate, Host};
-use tk_rounds::{Bench, Controller, Member, Node, RoundEnd, node_round, serial_round};
+use tk_rounds::{Bench, Controller, Member, Node, RoundEnd, node_round};
 use tk_store::Store;
 use tk_world::{deliver_all, is_open};
 
@@ -52,8 +53,15 @@ fn ask<K: Clock, H: Host, G: Gate>(
     ask_due(alloc, &mut bench.user, words, asking, store)
 }
 
-/// A round of all members of the bench, or of the nodes alone. The only error is want of memory.
-fn some_round<K: Clock, H: Host, G: Gate>(
+/// A round of all members of the bench, each in a thread of its own, or of the nodes alone, one after the other. The only
+/// error is want of memory.
+fn some_round<
+    T: Threads + Wait + Sync,
+    K: Clock + Drop + Send,
+    H: Host + Drop + Send,
+    G: Gate + Drop + Send,
+>(
+    rt: &T,
     alloc: Global,
     bench: &mut Bench<K, H, G>,
     store: &mut Store,
@@ -73,7 +81,7 @@ fn some_round<K: Clock, H: Host, G: Gate>(
     ensures nodes_follow { AllFollow (NodeFollows G.answers K.readings K.last H.told H.faults) bench.old.kubelets.items bench.new.kubelets.items store.old.history store.new.history }
 {
     if is_whole {
-        serial_round(bench, alloc, store)
+        tk_threads::round(rt, bench, alloc, store)
     } else {
         node_round(bench, alloc, store)
     }
@@ -81,7 +89,13 @@ fn some_round<K: Clock, H: Host, G: Gate>(
 
 /// A round of the bench, of the nodes alone or of all members, and by how many entries the journal grew. The only error is
 /// want of memory.
-fn round<K: Clock, H: Host, G: Gate>(
+fn round<
+    T: Threads + Wait + Sync,
+    K: Clock + Drop + Send,
+    H: Host + Drop + Send,
+    G: Gate + Drop + Send,
+>(
+    rt: &T,
     alloc: Global,
     bench: &mut Bench<K, H, G>,
     words: &[AskWord],
@@ -95,7 +109,7 @@ fn round<K: Clock, H: Host, G: Gate>(
     ensures goes { GoesOn G.answers K.readings K.last H.told H.faults bench.old bench.new store.old.history store.new.history }
     ensures asks { (since : ℕ) → AreTried since words.now asking.now.tried.items store.old.history → AreTried since words.now asking.now.tried.items store.new.history }
 {
-    let end = some_round(alloc, bench, store, is_whole);
+    let end = some_round(rt, alloc, bench, store, is_whole);
     store.legal();
     Ok(end?.wrote)
 }
@@ -110,7 +124,13 @@ fn is_whole(idle: u64) -> bool {
 }
 
 /// What is due is asked, and a round follows, of all members where something was asked. The only error is want of memory.
-fn go_on<K: Clock, H: Host, G: Gate>(
+fn go_on<
+    T: Threads + Wait + Sync,
+    K: Clock + Drop + Send,
+    H: Host + Drop + Send,
+    G: Gate + Drop + Send,
+>(
+    rt: &T,
     alloc: Global,
     bench: &mut Bench<K, H, G>,
     words: &[AskWord],
@@ -131,6 +151,7 @@ fn go_on<K: Clock, H: Host, G: Gate>(
     ask(alloc, bench, words, asking, store)?;
     let has_asked = store.journal().len() > before;
     round(
+        rt,
         alloc,
         bench,
         words,
@@ -172,7 +193,12 @@ fn rest<K: Clock>(user: &mut K, idle: u64)
 
 /// Rounds until every run is closed or pending and each word was tried. After a round without an entry the user's clock
 /// rests. The only error is want of memory.
-pub(crate) fn rounds<T: Wait, K: Clock, H: Host, G: Gate>(
+pub(crate) fn rounds<
+    T: Threads + Wait + Sync,
+    K: Clock + Drop + Send,
+    H: Host + Drop + Send,
+    G: Gate + Drop + Send,
+>(
     rt: &T,
     alloc: Global,
     bench: &mut Bench<K, H, G>,
@@ -194,7 +220,7 @@ pub(crate) fn rounds<T: Wait, K: Clock, H: Host, G: Gate>(
 {
     let mut idle = 0u64;
     for _ in rt.forever() {
-        let wrote = go_on(alloc, bench, words, asking, store, idle)?;
+        let wrote = go_on(rt, alloc, bench, words, asking, store, idle)?;
         idle = idle_after(idle, wrote);
         if idle > 0 {
             if is_over(asking, watch, store)? {

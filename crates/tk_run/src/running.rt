@@ -16,6 +16,7 @@ use crate::going::rounds;
 use crate::killing::kill_all;
 use std::alloc::{AllocError, Global};
 use std::sync::Wait;
+use std::thread::Threads;
 use tk_admit::admit;
 use tk_cache::Cache;
 use tk_edge::{Clock, Gate, Host};
@@ -100,10 +101,16 @@ fn stop<K: Clock, H: Host, G: Gate>(
     }
 }
 
-/// Runs an input on a bench: its objects are admitted, and the members of the bench take turns in rounds until every run is
+/// Runs an input on a bench: its objects are admitted, and the members of the bench take turns in rounds, each in a thread of
+/// its own (but for rounds of the nodes alone while nothing is written), until every run is
 /// closed or pending and each word was asked at its time, or memory lacks. Then all that still runs is killed, and the journal so
 /// far is answered. The folders of pods and workspaces stand below the root.
-pub fn run<T: Wait, K: Clock, H: Host, G: Gate>(
+pub fn run<
+    T: Threads + Wait + Sync,
+    K: Clock + Drop + Send,
+    H: Host + Drop + Send,
+    G: Gate + Drop + Send,
+>(
     rt: &T,
     alloc: Global,
     bytes: &[u8],

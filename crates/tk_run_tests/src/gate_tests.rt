@@ -6,6 +6,7 @@ use crate::benches::{bench, lines, told};
 use crate::run_tests::input;
 use std::alloc::{AllocError, Global};
 use std::sync::Wait;
+use std::thread::Threads;
 use std::test::Fail;
 use tk_edge::{GateTurn, ListGate};
 use tk_journal::Fronts;
@@ -89,7 +90,7 @@ fn listing_again(alloc: Global) -> Result<ListGate, AllocError> {
 }
 
 /// What a run of an input comes to, with such gates.
-fn ran<T: Wait>(
+fn ran<T: Threads + Wait + Sync>(
     rt: &T,
     alloc: Global,
     text: &str,

@@ -5,13 +5,14 @@ ghost use Rattle.std.specs.Prelude.{◌≡◌, IfOk};
 use crate::benches::{asked, bench, lines, told};
 use std::alloc::{AllocError, Global};
 use std::sync::Wait;
+use std::thread::Threads;
 use std::test::Fail;
 use tk_edge::Fresh;
 use tk_run::{AskWord, run};
 use tk_types::{List, Text};
 
 /// What is reported of a run of these objects, on which this is asked, with gates that keep caches fresh.
-fn ran<T: Wait>(
+fn ran<T: Threads + Wait + Sync>(
     rt: &T,
     alloc: Global,
     text: &str,
@@ -46,7 +47,7 @@ pub(crate) fn input(name: &str) -> &str {
 }
 
 /// What is reported of a row's input, on which is asked what the row says.
-fn reported<T: Wait>(rt: &T, alloc: Global, line: &str) -> Result<String, AllocError> {
+fn reported<T: Threads + Wait + Sync>(rt: &T, alloc: Global, line: &str) -> Result<String, AllocError> {
     let (name, asks) = line.split_once(' ').unwrap_or((line, ""));
     let Some(asks) = asked(alloc, asks)? else {
         return String::from_str(alloc, "no asks");

@@ -18,6 +18,7 @@ use remembering::{Heard, Remembering};
 use std::alloc::{AllocError, Global};
 use std::process::ExitCode;
 use std::sync::Wait;
+use std::thread::Threads;
 use std::{env, io};
 use tk_advice::{USAGE, advice, complaint};
 use tk_commands::{Ended, tkn};
@@ -130,7 +131,7 @@ fn advice_of(alloc: Global, printed: &[u8], read: Option<&[u8]>) -> Said {
 }
 
 /// Carries out the words, and gives the status, and what else to say.
-fn run<T: Wait>(rt: &HostRuntime, wait: &T) -> (u8, Said)
+fn run<T: Threads + Wait + Sync>(rt: &HostRuntime, threads: &T) -> (u8, Said)
     ensures { result.0 < 8 }
 {
     let alloc = rt.alloc();
@@ -148,7 +149,7 @@ fn run<T: Wait>(rt: &HostRuntime, wait: &T) -> (u8, Said)
         journal: _journal,
         warnings,
     } = tkn(
-        wait,
+        threads,
         alloc,
         words.as_slice(),
         &mut input,

@@ -15,7 +15,7 @@ use Rattle.tk_run.proofs.Starting.{user_began}
 use Rattle.tk_run.proofs.running.run.Goals as goal
 
 pub rounds-requires-clause-ready : goal.rounds-requires-clause-ready
-rounds-requires-clause-ready g c =
+rounds-requires-clause-ready g c κs within =
     let root = c.args.root.now in
     let words = c.args.words.now in
     let given = c.in-Ok.ensures.ok.1 in
@@ -25,7 +25,7 @@ rounds-requires-clause-ready g c =
     is_ready g.G.Gate.answers g.K.Clock.readings g.K.Clock.last g.H.Host.told g.H.Host.killed g.H.Host.faults root c.args.bench.now (record c.begin.new.bench { user = c.now-start.new.self }) c.requires.bench c.begin.ensures.counts c.begin.ensures.controllers (c.begin.ensures.nodes root given.each) first legal admits
 
 pub rounds-requires-clause-shows : goal.rounds-requires-clause-shows
-rounds-requires-clause-shows g c = shows_none (seen c.empty-watch.result) c.in-Ok.prepared.0.history c.empty-watch.ensures
+rounds-requires-clause-shows g c κs within = shows_none (seen c.empty-watch.result) c.in-Ok.prepared.0.history c.empty-watch.ensures
 
 pub returns-in-Ok-rounds : goal.returns-in-Ok-rounds
 returns-in-Ok-rounds g c =

@@ -1,0 +1,12 @@
+use Rattle.std.proofs.Common.{◌≡◌, ◌≤◌, ◌++◌, length, map}
+use Rattle.std.specs.Vec.{vec_capacity}
+use Rattle.std.specs.Vec.Iter.{into_iter_items}
+use Rattle.tk_threads.specs.Seating.{node_in}
+use Rattle.tk_threads.proofs.seating.leave_nodes.Given as goal
+
+abbrev pub invariant-loop-seat : goal.invariant-loop-seat
+invariant-loop-seat g l = record {
+  made : l.nodes.items ≡ map node_in l.yielded;
+  rest : l.fn.seats.items ≡ l.yielded ++ into_iter_items l.seat-iterator;
+  room : length l.fn.seats.items ≤ vec_capacity l.nodes;
+}
