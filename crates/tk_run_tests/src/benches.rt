@@ -1,11 +1,13 @@
 //! Benches in memory, and what is told of runs on them.
 
-ghost use Rattle.std.specs.Prelude.{◌≡◌, IfOk, OnOk};
+ghost use Rattle.std.specs.Prelude.{◌≡◌, ◌<◌, ◌≤◌, length, IfOk, OnOk};
 ghost use Rattle.tk_journal.specs.Legal.{IsLegal};
 ghost use Rattle.tk_run.specs.Begun.{IsNewBench, IsNewController, IsNewNode};
+ghost use Rattle.tk_run_tests.specs.Each.{Each};
 
+use crate::gate_tests::scripts;
 use std::alloc::{AllocError, Global};
-use tk_edge::{Gate, Host, ManualClock};
+use tk_edge::{Fresh, Gate, Host, ManualClock};
 use tk_report::report;
 use tk_rounds::{Bench, Controller, Node};
 use tk_run::{AskWord, Ran};
@@ -51,6 +53,52 @@ pub(crate) fn bench<G: Gate + Drop>(
     Ok(Bench {
         controllers,
         kubelets,
+        user: ManualClock::new(alloc),
+    })
+}
+
+/// So many controllers, whose gates keep their caches fresh.
+fn controllers(
+    alloc: Global,
+    count: usize,
+) -> Result<Vec<Controller<ManualClock, Fresh>>, AllocError>
+    ensures count { IfOk result (λ made. length made.items ≡ count) }
+    ensures new { IfOk result (λ made. Each IsNewController made.items) }
+{
+    let mut made = Vec::new(alloc);
+    for _ in 0..count {
+        made.push(controller(alloc, Fresh::new()))?;
+    }
+    Ok(made)
+}
+
+/// So many nodes with such gates, over hosts that play what builds.
+fn nodes(
+    alloc: Global,
+    count: usize,
+) -> Result<Vec<Node<ManualClock, ScriptHost, Fresh>>, AllocError>
+    ensures count { IfOk result (λ made. length made.items ≡ count) }
+    ensures new { IfOk result (λ made. Each (IsNewNode (⟦<ScriptHost as Host>⟧.told)) made.items) }
+{
+    let mut made = Vec::new(alloc);
+    for _ in 0..count {
+        let node = node(alloc, Fresh::new(), scripts(alloc)?, List::new(alloc))?;
+        made.push(node)?;
+    }
+    Ok(made)
+}
+
+/// A bench of so many controllers and as many nodes, over hosts that play what builds.
+pub(crate) fn crowd(
+    alloc: Global,
+    count: usize,
+) -> Result<Bench<ManualClock, ScriptHost, Fresh>, AllocError>
+    requires { (0 < count) × (count ≤ 64) }
+    ensures { IfOk result (IsNewBench (⟦<ScriptHost as Host>⟧.told)) }
+{
+    Ok(Bench {
+        controllers: controllers(alloc, count)?,
+        kubelets: nodes(alloc, count)?,
         user: ManualClock::new(alloc),
     })
 }

@@ -6,8 +6,8 @@ use crate::benches::{bench, lines, told};
 use crate::run_tests::input;
 use std::alloc::{AllocError, Global};
 use std::sync::Wait;
-use std::thread::Threads;
 use std::test::Fail;
+use std::thread::Threads;
 use tk_edge::{GateTurn, ListGate};
 use tk_journal::Fronts;
 use tk_run::{Ran, run};
@@ -15,7 +15,7 @@ use tk_script::PodScript;
 use tk_types::{Kind, List, Pair, Text};
 
 /// A run that fetches, lints, tests twice, packages and notifies, and has results.
-const BUILD: &str =
+pub(crate) const BUILD: &str =
     r##"{"apiVersion":"v1","kind":"List","items":[{"apiVersion":"tekton.dev/v1","kind":"Task","metadata":{"name":"fetch"},"spec":{"params":[{"name":"url"}],"results":[{"name":"commit"}],"steps":[{"name":"clone","image":"alpine/git","script":"#!/bin/sh\necho $(params.url)\nprintf abc123 > $(results.commit.path)"}]}},{"apiVersion":"tekton.dev/v1","kind":"PipelineRun","metadata":{"generateName":"build-"},"spec":{"params":[{"name":"url","value":"git.example/app"}],"pipelineSpec":{"params":[{"name":"url"}],"tasks":[{"name":"fetch","taskRef":{"name":"fetch"},"params":[{"name":"url","value":"$(params.url)"}]},{"name":"lint","runAfter":["fetch"],"taskSpec":{"steps":[{"image":"lint","script":"true"}]}},{"name":"test","runAfter":["fetch"],"matrix":{"params":[{"name":"os","value":["linux","mac"]}]},"taskSpec":{"params":[{"name":"os"}],"results":[{"name":"log"}],"steps":[{"script":"printf ok-$(params.os) > $(results.log.path)"}]}},{"name":"package","runAfter":["lint"],"params":[{"name":"commit","value":"$(tasks.fetch.results.commit)"},{"name":"logs","value":"$(tasks.test.results.log[*])"}],"taskSpec":{"params":[{"name":"commit"},{"name":"logs","type":"array"}],"results":[{"name":"image"},{"name":"logs","type":"array"}],"steps":[{"script":"printf img-$(params.commit) > $(results.image.path)\nprintf '[\"%s\",\"%s\"]' \"$1\" \"$2\" > $(results.logs.path)","args":["$(params.logs[*])"]}]}}],"finally":[{"name":"notify","params":[{"name":"st","value":"$(tasks.status)"}],"taskSpec":{"params":[{"name":"st"}],"steps":[{"script":"[ $(params.st) = Succeeded ]"}]}}],"results":[{"name":"image","value":"$(tasks.package.results.image)"},{"name":"logs","value":"$(tasks.package.results.logs[*])"}]}}}]}"##;
 
 /// Pods of it, a result of each and its file.
@@ -42,7 +42,7 @@ fn files_of(alloc: Global, pod: &str) -> Result<List<Pair>, AllocError> {
 }
 
 /// What the pods play: each leaves its result files.
-fn scripts(alloc: Global) -> Result<List<PodScript>, AllocError> {
+pub(crate) fn scripts(alloc: Global) -> Result<List<PodScript>, AllocError> {
     let mut scripts = Vec::new(alloc);
     for line in FILES.split('\n') {
         let (pod, _) = line.split_once(' ').unwrap_or((line, ""));

@@ -5,8 +5,8 @@ ghost use Rattle.std.specs.Prelude.{◌≡◌, IfOk};
 use crate::benches::{asked, bench, lines, told};
 use std::alloc::{AllocError, Global};
 use std::sync::Wait;
-use std::thread::Threads;
 use std::test::Fail;
+use std::thread::Threads;
 use tk_edge::Fresh;
 use tk_run::{AskWord, run};
 use tk_types::{List, Text};
@@ -47,7 +47,11 @@ pub(crate) fn input(name: &str) -> &str {
 }
 
 /// What is reported of a row's input, on which is asked what the row says.
-fn reported<T: Threads + Wait + Sync>(rt: &T, alloc: Global, line: &str) -> Result<String, AllocError> {
+fn reported<T: Threads + Wait + Sync>(
+    rt: &T,
+    alloc: Global,
+    line: &str,
+) -> Result<String, AllocError> {
     let (name, asks) = line.split_once(' ').unwrap_or((line, ""));
     let Some(asks) = asked(alloc, asks)? else {
         return String::from_str(alloc, "no asks");
