@@ -10,8 +10,8 @@ ghost use Rattle.tk_run.specs.Begun.{IsNewBench, IsNewController, IsNewNode};
 use std::alloc::{AllocError, Global};
 use std::process::Abort;
 use std::sync::Wait;
-use std::thread::Threads;
 use std::test::Fail;
+use std::thread::Threads;
 use tk_commands::{Ended, plain, tkn};
 use tk_edge::{CleanHost, Fresh, Host, ManualClock, MemSink, MemSource, Sink, Source};
 use tk_rounds::{Bench, Controller, Node};
@@ -153,7 +153,11 @@ pub(crate) fn answered<T: Threads + Wait + Sync>(
 }
 
 /// What a row's first part comes to: its words, what fails, and its input.
-fn answered_row<T: Threads + Wait + Sync>(rt: &T, alloc: Global, given: &str) -> Result<String, AllocError> {
+fn answered_row<T: Threads + Wait + Sync>(
+    rt: &T,
+    alloc: Global,
+    given: &str,
+) -> Result<String, AllocError> {
     let (line, input) = given.split_once('\n').unwrap_or((given, ""));
     let (line, fails) = line.split_once(" | ").unwrap_or((line, ""));
     let words = words(alloc, line)?;
@@ -161,7 +165,11 @@ fn answered_row<T: Threads + Wait + Sync>(rt: &T, alloc: Global, given: &str) ->
 }
 
 /// Whether each row of a table comes to what it tells.
-pub(crate) fn rows_hold<T: Threads + Wait + Sync + Abort>(rt: &T, alloc: Global, table: &str) -> Result<(), Fail> {
+pub(crate) fn rows_hold<T: Threads + Wait + Sync + Abort>(
+    rt: &T,
+    alloc: Global,
+    table: &str,
+) -> Result<(), Fail> {
     for row in table.split("\n\n") {
         let (given, wanted) = row.split_once("\n=> ").unwrap_or((row, "no answer"));
         let told = answered_row(rt, alloc, given)?;

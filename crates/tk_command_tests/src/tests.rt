@@ -3,8 +3,8 @@
 use crate::rows::{answered, rows_hold};
 use std::alloc::Global;
 use std::sync::Wait;
-use std::thread::Threads;
 use std::test::Fail;
+use std::thread::Threads;
 use tk_types::{Bytes, Text};
 
 /// Runs whose labels and condition are decided.
@@ -490,7 +490,11 @@ fn no_word_is_usage(rt: HostRuntime) -> Result<(), Fail> {
 }
 
 /// What `decide` answers for so many spaces.
-fn told_of_spaces<T: Threads + Wait + Sync>(rt: &T, alloc: Global, count: usize) -> Result<String, Fail> {
+fn told_of_spaces<T: Threads + Wait + Sync>(
+    rt: &T,
+    alloc: Global,
+    count: usize,
+) -> Result<String, Fail> {
     let spaces = Vec::from_elem(alloc, b' ', count)?;
     let words = [Text::from_str(alloc, "decide")?];
     Ok(answered(rt, alloc, words.as_slice(), "", Bytes::from_vec(spaces))?)
