@@ -15,7 +15,7 @@ use std::sync::Wait;
 use std::thread::Threads;
 use tk_cache::Cache;
 use tk_edge::{Clock, Gate, Host};
-use tk_rounds::{Bench, Controller, Member, Node, RoundEnd, node_round};
+use tk_rounds::{Bench, Controller, Member, Node, RoundEnd, node_round, serial_round};
 use tk_store::Store;
 use tk_world::{deliver_all, is_open};
 
@@ -53,8 +53,18 @@ fn ask<K: Clock, H: Host, G: Gate>(
     ask_due(alloc, &mut bench.user, words, asking, store)
 }
 
-/// A round of all members of the bench, each in a thread of its own, or of the nodes alone, one after the other. The only
-/// error is want of memory.
+/// Who takes turns in a round, and how.
+#[derive(Clone, Copy)]
+enum Way {
+    /// All members, one after the other.
+    OneByOne,
+    /// All members, each in a thread of its own.
+    InThreads,
+    /// The nodes, one after the other.
+    NodesAlone,
+}
+
+/// A round of the bench. The only error is want of memory.
 fn some_round<
     T: Threads + Wait + Sync,
     K: Clock + Drop + Send,
@@ -65,7 +75,7 @@ fn some_round<
     alloc: Global,
     bench: &mut Bench<K, H, G>,
     store: &mut Store,
-    is_whole: bool,
+    way: Way,
 ) -> Result<RoundEnd, AllocError>
     requires sizes { (length bench.old.controllers.items < 2 ^ 32) × (length bench.old.kubelets.items < 2 ^ 32) }
     requires controllers { AllReady controller_number IsReadyController store.old.history bench.old.controllers.items }
@@ -80,15 +90,14 @@ fn some_round<
     ensures controllers_follow { AllFollow (ControllerFollows G.answers K.readings K.last) bench.old.controllers.items bench.new.controllers.items store.old.history store.new.history }
     ensures nodes_follow { AllFollow (NodeFollows G.answers K.readings K.last H.told H.faults) bench.old.kubelets.items bench.new.kubelets.items store.old.history store.new.history }
 {
-    if is_whole {
-        tk_threads::round(rt, bench, alloc, store)
-    } else {
-        node_round(bench, alloc, store)
+    match way {
+        Way::OneByOne => serial_round(bench, alloc, store),
+        Way::InThreads => tk_threads::round(rt, bench, alloc, store),
+        Way::NodesAlone => node_round(bench, alloc, store),
     }
 }
 
-/// A round of the bench, of the nodes alone or of all members, and by how many entries the journal grew. The only error is
-/// want of memory.
+/// A round of the bench, and by how many entries the journal grew. The only error is want of memory.
 fn round<
     T: Threads + Wait + Sync,
     K: Clock + Drop + Send,
@@ -101,7 +110,7 @@ fn round<
     words: &[AskWord],
     asking: &Asking,
     store: &mut Store,
-    is_whole: bool,
+    way: Way,
 ) -> Result<u64, AllocError>
     requires ready { IsReady H.told H.killed store.old.history bench.old }
     ensures legal { IsLegal store.new.history }
@@ -109,7 +118,7 @@ fn round<
     ensures goes { GoesOn G.answers K.readings K.last H.told H.faults bench.old bench.new store.old.history store.new.history }
     ensures asks { (since : ℕ) → AreTried since words.now asking.now.tried.items store.old.history → AreTried since words.now asking.now.tried.items store.new.history }
 {
-    let end = some_round(rt, alloc, bench, store, is_whole);
+    let end = some_round(rt, alloc, bench, store, way);
     store.legal();
     Ok(end?.wrote)
 }
@@ -117,13 +126,21 @@ fn round<
 /// How many rounds in a row that come to nothing go by until the controllers look again.
 const LOOKS: u64 = 8;
 
-/// Whether the controllers take part in a round behind so many that came to nothing. Where no node wrote an entry and
-/// nothing was asked, only a timeout can give them something to do, so they look now and then.
-fn is_whole(idle: u64) -> bool {
-    idle % LOOKS == 0
+/// How the round goes that stands behind so many that came to nothing. While entries are written, or where something was
+/// asked, members go one after the other: a turn holds the store, so threads would only hand it over. Behind a round that
+/// came to nothing the run waits. Then only a timeout can give controllers something to do, so they look now and then, each
+/// member in a thread of its own, where a gate that takes its time holds up no other.
+fn way_behind(idle: u64, has_asked: bool) -> Way {
+    if has_asked || idle == 0 {
+        Way::OneByOne
+    } else if idle % LOOKS == 0 {
+        Way::InThreads
+    } else {
+        Way::NodesAlone
+    }
 }
 
-/// What is due is asked, and a round follows, of all members where something was asked. The only error is want of memory.
+/// What is due is asked, and a round follows. The only error is want of memory.
 fn go_on<
     T: Threads + Wait + Sync,
     K: Clock + Drop + Send,
@@ -157,7 +174,7 @@ fn go_on<
         words,
         asking,
         store,
-        has_asked || is_whole(idle),
+        way_behind(idle, has_asked),
     )
 }
 

@@ -101,8 +101,8 @@ fn stop<K: Clock, H: Host, G: Gate>(
     }
 }
 
-/// Runs an input on a bench: its objects are admitted, and the members of the bench take turns in rounds, each in a thread of
-/// its own (but for rounds of the nodes alone while nothing is written), until every run is
+/// Runs an input on a bench: its objects are admitted, and the members of the bench take turns in rounds (one after the
+/// other while entries are written, and in threads of their own while the run waits), until every run is
 /// closed or pending and each word was asked at its time, or memory lacks. Then all that still runs is killed, and the journal so
 /// far is answered. The folders of pods and workspaces stand below the root.
 pub fn run<
