@@ -1,13 +1,13 @@
 //! Benches in memory, and what is told of runs on them.
 
-ghost use Rattle.std.specs.Prelude.{◌≡◌, ◌<◌, ◌≤◌, length, IfOk, OnOk};
+ghost use Rattle.std.specs.Prelude.{◌≡◌, ◌<◌, ◌≤◌, length, IfOk, None, OnOk};
 ghost use Rattle.tk_journal.specs.Legal.{IsLegal};
 ghost use Rattle.tk_run.specs.Begun.{IsNewBench, IsNewController, IsNewNode};
 ghost use Rattle.tk_run_tests.specs.Each.{Each};
 
 use crate::gate_tests::scripts;
 use std::alloc::{AllocError, Global};
-use tk_edge::{Fresh, Gate, Host, ManualClock};
+use tk_edge::{Fresh, Gate, GateTurn, Host, ManualClock};
 use tk_report::report;
 use tk_rounds::{Bench, Controller, Node};
 use tk_run::{AskWord, Ran};
@@ -57,17 +57,46 @@ pub(crate) fn bench<G: Gate + Drop>(
     })
 }
 
-/// So many controllers, whose gates keep their caches fresh.
+/// A gate that pauses so many times, and then keeps its cache fresh. Behind a round that came to nothing controllers and nodes
+/// are asked in threads now and then, so its members first work there.
+#[derive(Drop)]
+pub(crate) struct Late {
+    pauses: u32,
+    fresh: Fresh,
+}
+
+impl Gate for Late {
+    ghost answers = { λ _. None };
+
+    fn next(&mut self, lag: u64) -> GateTurn {
+        if self.pauses > 0 {
+            self.pauses -= 1;
+            return GateTurn::Pause;
+        }
+        self.fresh.next(lag)
+    }
+}
+
+/// Such a gate.
+fn pausing(pauses: u32) -> Late {
+    Late {
+        pauses,
+        fresh: Fresh::new(),
+    }
+}
+
+/// So many controllers with such gates.
 fn controllers(
     alloc: Global,
     count: usize,
-) -> Result<Vec<Controller<ManualClock, Fresh>>, AllocError>
+    pauses: u32,
+) -> Result<Vec<Controller<ManualClock, Late>>, AllocError>
     ensures count { IfOk result (λ made. length made.items ≡ count) }
     ensures new { IfOk result (λ made. Each IsNewController made.items) }
 {
     let mut made = Vec::new(alloc);
     for _ in 0..count {
-        made.push(controller(alloc, Fresh::new()))?;
+        made.push(controller(alloc, pausing(pauses)))?;
     }
     Ok(made)
 }
@@ -76,29 +105,31 @@ fn controllers(
 fn nodes(
     alloc: Global,
     count: usize,
-) -> Result<Vec<Node<ManualClock, ScriptHost, Fresh>>, AllocError>
+    pauses: u32,
+) -> Result<Vec<Node<ManualClock, ScriptHost, Late>>, AllocError>
     ensures count { IfOk result (λ made. length made.items ≡ count) }
     ensures new { IfOk result (λ made. Each (IsNewNode (⟦<ScriptHost as Host>⟧.told)) made.items) }
 {
     let mut made = Vec::new(alloc);
     for _ in 0..count {
-        let node = node(alloc, Fresh::new(), scripts(alloc)?, List::new(alloc))?;
+        let node = node(alloc, pausing(pauses), scripts(alloc)?, List::new(alloc))?;
         made.push(node)?;
     }
     Ok(made)
 }
 
-/// A bench of so many controllers and as many nodes, over hosts that play what builds.
+/// A bench of so many controllers and as many nodes with such gates, over hosts that play what builds.
 pub(crate) fn crowd(
     alloc: Global,
     count: usize,
-) -> Result<Bench<ManualClock, ScriptHost, Fresh>, AllocError>
+    pauses: u32,
+) -> Result<Bench<ManualClock, ScriptHost, Late>, AllocError>
     requires { (0 < count) × (count ≤ 64) }
     ensures { IfOk result (IsNewBench (⟦<ScriptHost as Host>⟧.told)) }
 {
     Ok(Bench {
-        controllers: controllers(alloc, count)?,
-        kubelets: nodes(alloc, count)?,
+        controllers: controllers(alloc, count, pauses)?,
+        kubelets: nodes(alloc, count, pauses)?,
         user: ManualClock::new(alloc),
     })
 }

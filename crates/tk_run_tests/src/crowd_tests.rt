@@ -1,4 +1,4 @@
-//! Runs of inputs on benches of many members, each in a thread of its own.
+//! Runs of inputs on benches of many members, which begin in threads where their gates are late.
 
 use crate::benches::{crowd, lines, told};
 use crate::gate_tests::BUILD;
@@ -19,11 +19,11 @@ const BUILT: &str = r#"pipelinerun build-00001 True Succeeded
 #[test]
 fn sixty_four_controllers_and_nodes_change_no_outcome(rt: HostRuntime) -> Result<(), Fail> {
     let alloc = rt.alloc();
-    for count in [1, 64] {
-        let mut bench = crowd(alloc, count)?;
+    for (count, pauses) in [(1, 0), (64, 0), (1, 3), (64, 3)] {
+        let mut bench = crowd(alloc, count, pauses)?;
         let ran = run(&rt, alloc, BUILD.as_bytes(), "/work", &[], &mut bench);
         let report = told(alloc, &ran)?;
-        assert_eq!(rt; lines(report.as_str()), BUILT, "of {count}");
+        assert_eq!(rt; lines(report.as_str()), BUILT, "of {count} and {pauses}");
     }
     Ok(())
 }
