@@ -427,7 +427,7 @@ impl Host for CleanHost {
 }
 
 /// What an entry is armed with, copied.
-pub(crate) fn arming_from(
+pub fn arming_from(
     alloc: Global,
     order: &Order,
     wait: &str,

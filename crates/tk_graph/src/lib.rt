@@ -28,3 +28,4 @@ pub use ordering::{Ranks, cycle, order};
 pub use references::task_of;
 pub use refusal::OrderError;
 pub use texts::{result_tasks, task_texts};
+pub use unknown::unknown_name;

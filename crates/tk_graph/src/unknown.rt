@@ -13,8 +13,9 @@ fn first_missing<'a>(names: &Names, wanted: &'a [Text]) -> Option<&'a Text>
     wanted.iter().find(|name| !names.contains(name.as_str()))
 }
 
-/// The first of a task's parent names that no task has.
-fn unknown_name(
+/// The first of a task's parent names that no task of these has. The task needn't be one of them. The only error is want of
+/// memory.
+pub fn unknown_name(
     alloc: Global,
     names: &Names,
     task: &PipelineTask,

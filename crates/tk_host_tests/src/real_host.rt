@@ -5,7 +5,8 @@ use std::alloc::{AllocError, Global};
 use std::test::Fail;
 use std::time::Duration;
 use std::{env, fs, process, thread};
-use tk_edge::{Host, Miss, Poll, RealHost, Watch};
+use tk_edge::{Host, Miss, Poll, Watch};
+use tk_system::RealHost;
 
 /// How often a child is asked whether it ended, and how many milliseconds lie between.
 const TURNS: u32 = 2000;

@@ -4,8 +4,9 @@ use std::alloc::{AllocError, Global};
 use std::test::Fail;
 use tk_edge::{
     CleanSink, CleanSource, Clock, Failed, Fresh, Gate, GateTurn, ListGate, ManualClock, MemSink,
-    MemSource, Miss, ReadSource, Sink, Source, SystemClock, WriteSink,
+    MemSource, Miss, Sink, Source,
 };
+use tk_system::{ReadSource, SystemClock, WriteSink};
 use tk_types::{Bytes, Kind, List};
 
 fn bytes(alloc: Global, text: &str) -> Result<Bytes, AllocError> {

@@ -17,12 +17,7 @@ fn index_in_name(task: &PipelineTask, index: u32) -> Option<u32>
 }
 
 /// The name of a child's TaskRun (Tekton, PipelineRuns, Monitoring execution status).
-pub(crate) fn child_name(
-    alloc: Global,
-    spec: &RunSpec,
-    task: u32,
-    index: u32,
-) -> Result<Text, AllocError>
+pub fn child_name(alloc: Global, spec: &RunSpec, task: u32, index: u32) -> Result<Text, AllocError>
     ensures { IfOk result (λ name. name ≡ child_name_of spec.now task index) }
 {
     match spec.task(task as usize) {
@@ -37,7 +32,7 @@ pub(crate) fn child_name(
 }
 
 /// Whether the TaskRun is there and closed.
-pub(crate) fn has_closed(task_run: Option<&TaskRunState>) -> bool
+pub fn has_closed(task_run: Option<&TaskRunState>) -> bool
     ensures { result ≡ is_closed (option_copied task_run.entry) }
 {
     let Some(task_run) = task_run else {

@@ -42,7 +42,7 @@ fn are_closed(
 }
 
 /// Whether all is over (Tekton, PipelineRuns, Monitoring execution status).
-fn is_all_over(
+pub fn is_all_over(
     alloc: Global,
     cache: &Cache,
     run: &RunState,
@@ -82,7 +82,7 @@ fn skips(alloc: Global, labels: &[Verdict]) -> Result<Vec<Skip>, AllocError>
 }
 
 /// What a run closes with.
-fn closing(
+pub fn closing(
     alloc: Global,
     kept: &Labels,
     labels: &[Verdict],

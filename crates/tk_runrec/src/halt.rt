@@ -77,7 +77,13 @@ fn has_cause(moment: u64, run: &RunState, kept: &Labels, labels: &[Verdict], sto
 }
 
 /// Whether the stop may be recorded, of an open run.
-fn may_record(moment: u64, run: &RunState, kept: &Labels, labels: &[Verdict], stop: Stop) -> bool
+pub fn may_record(
+    moment: u64,
+    run: &RunState,
+    kept: &Labels,
+    labels: &[Verdict],
+    stop: Stop,
+) -> bool
     requires apart { AreApart run.now.scheduled }
     requires same { kept.now.spec ≡ run.now.spec }
     requires long { length run.now.spec.tasks ≤ length labels.now }

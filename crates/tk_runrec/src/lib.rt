@@ -9,15 +9,15 @@
 #![tactic(auto)]
 
 mod cancel;
-mod children;
+pub mod children;
 mod choice;
-mod close;
+pub mod close;
 mod found;
-mod halt;
+pub mod halt;
 pub mod laws;
 mod make;
-mod schedule;
-mod stops;
+pub mod schedule;
+pub mod stops;
 mod worker;
 
 pub use worker::RunWorker;

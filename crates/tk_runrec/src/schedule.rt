@@ -39,7 +39,7 @@ fn are_recorded_below(recorded: &[Stop]) -> bool
 }
 
 /// Whether nothing holds back the tasks of `tasks`.
-fn goes_on(run: &RunState, kept: &Labels) -> bool
+pub fn goes_on(run: &RunState, kept: &Labels) -> bool
     requires { kept.now.spec ≡ run.now.spec }
     ensures { result ≡ may_go_on run.now kept.now.children }
 {
@@ -47,7 +47,7 @@ fn goes_on(run: &RunState, kept: &Labels) -> bool
 }
 
 /// Whether nothing holds back the tasks of `finally` (Tekton, Pipelines, Using Finally with your Pipeline).
-fn finishes(run: &RunState) -> bool
+pub fn finishes(run: &RunState) -> bool
     ensures { result ≡ may_finish run.now }
 {
     are_recorded_below(run.stops.as_slice()) && are_asked_below(run.asked.as_slice())

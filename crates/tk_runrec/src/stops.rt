@@ -11,7 +11,7 @@ use tk_journal::RunState;
 use tk_types::{Asked, RunSpec, Start, Stop};
 
 /// The level of the stop that is asked for.
-pub(crate) fn asked_level(status: Asked) -> u32
+pub fn asked_level(status: Asked) -> u32
     ensures { result ≡ level_of_asked status }
 {
     match status {
@@ -23,14 +23,14 @@ pub(crate) fn asked_level(status: Asked) -> u32
 }
 
 /// Whether the run can start.
-pub(crate) fn is_startable(start: &Start) -> bool
+pub fn is_startable(start: &Start) -> bool
     ensures { result ≡ starts_ready start.now }
 {
     matches!(start, Start::Ready)
 }
 
 /// Whether the task is one of `finally`.
-pub(crate) fn is_of_finally(spec: &RunSpec, task: u32) -> bool
+pub fn is_of_finally(spec: &RunSpec, task: u32) -> bool
     ensures { result ≡ is_final spec.now task }
 {
     spec.tasks.len() <= task as usize
@@ -62,7 +62,7 @@ fn is_none_higher(asked: &[Asked], stop: Stop) -> bool
 }
 
 /// Whether the stop is asked for, and no higher status is.
-pub(crate) fn is_highest_asked(asked: &[Asked], stop: Stop) -> bool
+pub fn is_highest_asked(asked: &[Asked], stop: Stop) -> bool
     ensures { result ≡ is_highest asked.now stop }
 {
     is_asked(asked, stop) && is_none_higher(asked, stop)
@@ -77,14 +77,14 @@ fn is_one_as_high(recorded: &[Stop], status: Asked) -> bool
 }
 
 /// Whether the asked status is recorded, or of level 0.
-pub(crate) fn was_recorded(recorded: &[Stop], status: Asked) -> bool
+pub fn was_recorded(recorded: &[Stop], status: Asked) -> bool
     ensures { result ≡ is_recorded recorded.now status }
 {
     asked_level(status) == 0 || is_one_as_high(recorded, status)
 }
 
 /// Whether the stop's level is above all recorded.
-pub(crate) fn is_above_all(recorded: &[Stop], stop: Stop) -> bool
+pub fn is_above_all(recorded: &[Stop], stop: Stop) -> bool
     ensures { result ≡ is_above recorded.now stop }
 {
     let level = stop.level();
@@ -92,7 +92,7 @@ pub(crate) fn is_above_all(recorded: &[Stop], stop: Stop) -> bool
 }
 
 /// Whether a recorded stop reaches the task's children.
-pub(crate) fn reaches(run: &RunState, task: u32) -> bool
+pub fn reaches(run: &RunState, task: u32) -> bool
     ensures { result ≡ is_reached run.now task }
 {
     let from: u32 = if is_of_finally(&run.spec, task) { 3 } else { 2 };
@@ -101,7 +101,7 @@ pub(crate) fn reaches(run: &RunState, task: u32) -> bool
 
 /// Whether the timeout, in milliseconds, is set and has passed at the moment (Tekton, PipelineRuns, Configuring a failure
 /// timeout).
-pub(crate) fn timed_out(start: Option<u64>, timeout: u64, moment: u64) -> bool
+pub fn timed_out(start: Option<u64>, timeout: u64, moment: u64) -> bool
     ensures { result ≡ has_passed start timeout moment }
 {
     match start {

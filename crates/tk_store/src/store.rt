@@ -1,13 +1,15 @@
-ghost use Rattle.std.specs.Prelude.{◌≡◌, ◌≤◌, ◌<◌, [], ◌∷◌, ◌+◌, IfOk, length, reverse, true, false};
+ghost use Rattle.std.specs.Prelude.{◌≡◌, ◌≤◌, ◌<◌, ◌↔◌, [], ◌∷◌, ◌+◌, IfOk, IsTrue, length, reverse, true, false};
 ghost use Rattle.tk_journal.specs.Effects.{is_create};
+ghost use Rattle.tk_journal.specs.History.{version_of};
 ghost use Rattle.tk_journal.specs.Legal.{IsLegal, IsStep};
-ghost use Rattle.tk_store.specs.Writes.{MayBeTried, IsCreated, IsUpdated, version_seen};
+ghost use Rattle.tk_store.specs.Writes.{MayBeTried, IsCreated, IsUpdated, made_at, version_seen};
 
 use crate::answers::{Create, Update};
 use crate::index::Index;
 use std::alloc::{AllocError, Global};
 use std::marker::Model;
 use tk_journal::{Admitted, Entry, Journal};
+use tk_types::Kind;
 
 /// A legal journal, and the index of its objects, both in room that was reserved. Contracts see it as the entries of the
 /// journal, the newest first, and how many entries more take no memory.
@@ -66,8 +68,8 @@ impl Store {
         Ok(store)
     }
 
-    /// An empty store with room for so many entries.
-    fn with_room(alloc: Global, room: usize) -> Result<Self, AllocError>
+    /// An empty store with room for so many entries. The only error is want of memory.
+    pub fn with_room(alloc: Global, room: usize) -> Result<Self, AllocError>
         ensures empty { IfOk result (λ store. store.history ≡ []) }
         ensures spare { IfOk result (λ store. room ≤ store.spare) }
     {
@@ -84,8 +86,22 @@ impl Store {
         self.journal.room().min(self.index.room())
     }
 
+    /// Whether an object of this kind and name was made.
+    pub fn is_there(&self, kind: Kind, name: &str) -> bool
+        ensures { IsTrue result ↔ (0 < made_at kind name.now self.now.history) }
+    {
+        self.index.known(&self.journal, kind, name).is_some()
+    }
+
+    /// The version of an object of this kind and name: the position of the last entry that wrote it, 0 where there is none.
+    pub fn version(&self, kind: Kind, name: &str) -> u64
+        ensures { result ≡ version_of kind name.now self.now.history }
+    {
+        self.index.version(&self.journal, kind, name)
+    }
+
     /// Adds an entry that goes through at the end, in room that is there.
-    fn add(&mut self, entry: Entry)
+    pub fn add(&mut self, entry: Entry)
         requires step { IsStep self.old.history entry }
         requires spare { 0 < self.old.spare }
         ensures added { self.new.history ≡ entry ∷ self.old.history }

@@ -9,7 +9,7 @@
 
 mod choosing;
 pub mod laws;
-mod planning;
+pub mod planning;
 mod script;
 mod texts;
 mod words;

@@ -321,7 +321,7 @@ fn plan_bound(
 
 /// The plan of a TaskRun's attempt, counted from 1, where its parameters suit its body and each text of its steps has a
 /// value (Tekton, Tasks, Using variable substitution).
-pub(crate) fn plan(
+pub fn plan(
     alloc: Global,
     task_run: &TaskRunState,
     attempt: u32,

@@ -7,7 +7,7 @@
 
 mod answer;
 mod asking;
-mod refusal;
+pub mod refusal;
 
 pub use answer::AskAnswer;
 pub use asking::ask;

@@ -62,7 +62,7 @@ fn is_above(run: &RunState, status: Asked) -> bool
 
 /// The refusal that a run of this version gives, if any (Tekton, PipelineRuns, Cancelling a PipelineRun; Gracefully stopping
 /// a PipelineRun; Pending PipelineRuns).
-pub(crate) fn of_run(version: u64, status: Asked, run: &Option<RunState>) -> Option<AskAnswer>
+pub fn of_run(version: u64, status: Asked, run: &Option<RunState>) -> Option<AskAnswer>
     ensures { result ≡ run_refusal version status run.now }
 {
     match run {
@@ -80,7 +80,7 @@ pub(crate) fn of_run(version: u64, status: Asked, run: &Option<RunState>) -> Opt
 }
 
 /// The refusal that a TaskRun of this version gives, if any (Tekton, TaskRuns, Cancelling a TaskRun).
-pub(crate) fn of_task_run(version: u64, task_run: &Option<TaskRunState>) -> Option<AskAnswer>
+pub fn of_task_run(version: u64, task_run: &Option<TaskRunState>) -> Option<AskAnswer>
     ensures { result ≡ task_run_refusal version task_run.now }
 {
     match task_run {

@@ -22,8 +22,9 @@ use std::thread::Threads;
 use std::{env, io};
 use tk_advice::{USAGE, advice, complaint};
 use tk_commands::{Ended, tkn};
-use tk_edge::{Fresh, Host, ReadSource, RealHost, SystemClock, WriteSink};
+use tk_edge::{Fresh, Host};
 use tk_rounds::{Bench, Controller, Node};
+use tk_system::{ReadSource, RealHost, SystemClock, WriteSink};
 use tk_types::{List, Text};
 
 /// What standard error says beside a status.

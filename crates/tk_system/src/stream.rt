@@ -1,9 +1,7 @@
 ghost use Rattle.std.specs.Prelude.{◌≡◌, false};
 
-use crate::miss::{Failed, Miss};
-use crate::sink::Sink;
-use crate::source::Source;
 use std::io::{Read, Write};
+use tk_edge::{Failed, Miss, Sink, Source};
 
 /// A source over a reader, as that of standard input.
 #[derive(Drop)]

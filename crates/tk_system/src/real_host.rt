@@ -9,19 +9,16 @@ ghost use Rattle.tk_edge.specs.History.{Has, StillWaits, MayStart, arming_of, or
 ghost use Rattle.tk_edge.specs.HostLog.{counts, flags};
 ghost use Rattle.tk_edge.specs.Calls.{TellsWatch};
 
-use crate::clean_host::{arming_from, copy_bytes, ended, passes};
-use crate::event::Arming;
-use crate::host::Host;
-use crate::host_log::{HostLog, push_within};
-use crate::miss::{Failed, Miss};
-use crate::order::{Order, Poll, Watch};
-use crate::texts::{broken, bytes_of};
 use std::alloc::{AllocError, Global};
 use std::io::{ErrorKind, Read};
 use std::path::Path;
 use std::process::{Child, Command, ExitStatus, OpenProcess, Processes, Stdio};
 use std::rt::Files;
 use std::{fs, io};
+use tk_edge::{
+    Arming, Failed, Host, HostLog, Miss, Order, Poll, Watch, arming_from, broken, bytes_of,
+    copy_bytes, ended, passes, push_within,
+};
 use tk_types::{Bytes, Text, TryCopy};
 
 // The process of a child once it was started, and its exit once that was found.
