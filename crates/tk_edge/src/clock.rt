@@ -1,6 +1,9 @@
 ghost use Rattle.std.specs.Prelude.{◌≡◌, ◌≤◌, List, Option, ℕ};
 ghost use Rattle.tk_edge.specs.Readings.{last_moment, AddsWhileTold};
 
+/// 9999-12-31T23:59:59.999Z in milliseconds since 1970-01-01 UTC.
+pub const LAST_MOMENT: u64 = 253_402_300_799_999;
+
 /// Milliseconds since 1970-01-01 UTC, which never fall. The last one is that of the year 9999.
 pub trait Clock {
     /// The last reading; before the first one that was taken when the clock was made.

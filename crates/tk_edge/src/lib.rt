@@ -48,7 +48,7 @@ mod wait_file;
 pub use armed::{Armed, armed_turn};
 pub use clean::{CleanSink, CleanSource};
 pub use clean_host::{CleanHost, arming_from, copy_bytes, ended, first_bytes, passes};
-pub use clock::Clock;
+pub use clock::{Clock, LAST_MOMENT};
 pub use event::{Arming, Event};
 pub use fresh::Fresh;
 pub use gate::{Gate, GateTurn};

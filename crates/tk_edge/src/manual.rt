@@ -2,8 +2,7 @@ ghost use Rattle.std.specs.Prelude.{◌≡◌, ◌≤◌, [], OnErr, OnOk, Some}
 ghost use Rattle.tk_edge.specs.Manual.{with_reading};
 ghost use Rattle.tk_edge.specs.Readings.{last_moment, next_reading};
 
-use crate::clock::Clock;
-use crate::system::LAST_MOMENT;
+use crate::clock::{Clock, LAST_MOMENT};
 use std::alloc::{AllocError, Global};
 use std::marker::Model;
 

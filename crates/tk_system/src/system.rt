@@ -2,10 +2,7 @@ ghost use Rattle.std.specs.Prelude.{◌≡◌, ◌≤◌};
 ghost use Rattle.tk_edge.specs.Readings.{last_moment, reading_of};
 
 use std::time::{Clock as Time, Duration};
-use tk_edge::Clock;
-
-/// 9999-12-31T23:59:59.999Z in milliseconds since 1970-01-01 UTC.
-pub const LAST_MOMENT: u64 = 253_402_300_799_999;
+use tk_edge::{Clock, LAST_MOMENT};
 
 /// How many microseconds a clock of the system rests.
 const REST: u64 = 100;
