@@ -6,4 +6,6 @@ mod log;
 #[cfg(test)]
 mod meeting;
 #[cfg(test)]
+mod turns;
+#[cfg(test)]
 mod writing;

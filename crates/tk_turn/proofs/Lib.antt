@@ -4,4 +4,3 @@ pub mod Steps
 pub mod Shares
 pub mod Implied
 pub mod Calls
-pub mod Sample

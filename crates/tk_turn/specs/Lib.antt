@@ -3,4 +3,3 @@ pub mod Views
 pub mod Turns
 pub mod Rule
 pub mod Lending
-pub mod Sample

@@ -26,6 +26,3 @@ pub use held::Held;
 pub use journaled::Journaled;
 pub use lock::{NewError, TurnLock};
 pub use pass::Pass;
-
-#[cfg(test)]
-mod tests;

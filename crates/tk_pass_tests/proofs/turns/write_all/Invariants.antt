@@ -1,6 +1,6 @@
 use Rattle.std.proofs.Common.{◌≤◌}
-use Rattle.tk_turn.specs.Sample.{numbered, Wrote}
-use Rattle.tk_turn.proofs.tests.write_all.Given as goal
+use Rattle.tk_pass_tests.specs.Sample.{numbered, Wrote}
+use Rattle.tk_pass_tests.proofs.turns.write_all.Given as goal
 
 abbrev pub invariant-loop-turn : goal.invariant-loop-turn
 invariant-loop-turn g l = record {

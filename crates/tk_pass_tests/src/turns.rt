@@ -1,12 +1,12 @@
 ghost use Rattle.std.specs.Prelude.{◌≡◌, ◌+◌, ◌<◌, ◌^◌, ◌∷◌, [], ◌++◌, true, false, map, MatchBool, IfOk};
 ghost use Rattle.tk_turn.specs.Claims.{joined, owns, whole, written_by};
-ghost use Rattle.tk_turn.specs.Sample.{note_of, numbered, Wrote};
+ghost use Rattle.tk_pass_tests.specs.Sample.{note_of, numbered, Wrote};
 
-use crate::{Journaled, NewError, Pass, TurnLock};
 use std::alloc::{AllocError, Global};
 use std::sync::Wait;
 use std::test::*;
 use std::thread::{Threads, join};
+use tk_turn::{Journaled, NewError, Pass, TurnLock};
 
 /// A journal of pairs, an owner and a value.
 #[derive(Drop)]
@@ -16,7 +16,7 @@ struct Log {
 
 impl Journaled for Log {
     ghost use Rattle.std.specs.Prelude.{map};
-    ghost use Rattle.tk_turn.specs.Sample.{note_of};
+    ghost use Rattle.tk_pass_tests.specs.Sample.{note_of};
 
     ghost journal = { λ s. map note_of s.entries.items };
 

@@ -1,6 +1,6 @@
 use Rattle.std.proofs.Common.{◌∙◌}
-use Rattle.tk_turn.proofs.Sample.{idle_turn}
-use Rattle.tk_turn.proofs.tests.pass_by.Goals as goal
+use Rattle.tk_pass_tests.proofs.Sample.{idle_turn}
+use Rattle.tk_pass_tests.proofs.turns.pass_by.Goals as goal
 
 pub returns : goal.returns
 returns g c =

@@ -3,7 +3,7 @@ use Rattle.std.proofs.Common.{◌≡◌, ℕ, Bool, true, false, eq-eqb, cond, M
 use Rattle.std.specs.Prelude.{◌||◌}
 use Rattle.std.proofs.lemmas.List.{map-append}
 use Rattle.tk_turn.specs.Claims.{Note, Claim, PassValue, owns, owns_by, saw, written_by, Follows, Continues}
-use Rattle.tk_turn.specs.Sample.{note_of, SameRights, Wrote}
+use Rattle.tk_pass_tests.specs.Sample.{note_of, SameRights, Wrote}
 use Rattle.tk_turn.proofs.Numbers.{or_right}
 use Rattle.tk_turn.proofs.Seats.{own_entries, turn_entries}
 

@@ -1,7 +1,7 @@
 use Rattle.std.proofs.Common.{◌≡◌, true, [], ◌∷◌, ◌++◌, MatchBool, ap, sym, ◌∙◌, subst}
 use Rattle.tk_turn.specs.Claims.{Claim, owns}
-use Rattle.tk_turn.proofs.Sample.{may_give, one_turn}
-use Rattle.tk_turn.proofs.tests.write_one.Goals as goal
+use Rattle.tk_pass_tests.proofs.Sample.{may_give, one_turn}
+use Rattle.tk_pass_tests.proofs.turns.write_one.Goals as goal
 
 pub give-requires-clause-journal : goal.give-requires-clause-journal
 give-requires-clause-journal g c =

@@ -1,5 +1,5 @@
-use Rattle.tk_turn.proofs.Sample.{both_back}
-use Rattle.tk_turn.proofs.tests.take_back.Goals as goal
+use Rattle.tk_pass_tests.proofs.Sample.{both_back}
+use Rattle.tk_pass_tests.proofs.turns.take_back.Goals as goal
 
 pub returns-clause-a : goal.returns-clause-a
 returns-clause-a c =
