@@ -1,25 +1,20 @@
 //! What is said to people beside a status: of words that are no command, how the commands are called; of an input at fault,
-//! what is wrong and what to do; of an object that is admitted and can't start, why. It promises nothing but to return;
-//! tests show each sentence.
+//! what is wrong and what to do; of an object that is admitted and can't start, why; and of a status that tells no more. It
+//! promises for which status something is said, and which status comes of words that can't be had; of the others nothing but to
+//! return. Tests show each sentence (`tk_program_tests`).
 //!
 //! `sentences.rt` has a sentence for each of the 22 faults, `input.rt` what bytes look like that are no JSON and which
 //! object `decide` lacks, `words.rt` what is wrong with words that are no command, `start_warnings.rt` why what is
-//! admitted can't start.
+//! admitted can't start, `ends.rt` what is said of a status.
 #![tactic(auto)]
 
+mod ends;
 mod input;
-#[cfg(test)]
-mod input_tests;
 mod sentences;
-#[cfg(test)]
-mod sentences_tests;
 mod start_warnings;
-#[cfg(test)]
-mod start_warnings_tests;
 mod words;
-#[cfg(test)]
-mod words_tests;
 
+pub use ends::{message, unread_words};
 pub use input::advice;
 pub use start_warnings::{Unready, warnings};
 pub use words::{USAGE, complaint};

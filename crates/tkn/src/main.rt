@@ -7,12 +7,10 @@
 //! programs.
 #![tactic(auto)]
 
-ghost use Rattle.std.specs.Prelude.{◌≡◌, ◌<◌, ◌⊎◌, ◌↔◌, is_some, IfOk, IsTrue};
+ghost use Rattle.std.specs.Prelude.{◌≡◌, ◌<◌, ◌⊎◌, IfOk};
 ghost use Rattle.tk_run.specs.Begun.{IsNewBench, IsNewController, IsNewNode};
 
 mod remembering;
-#[cfg(test)]
-mod saying_tests;
 
 use remembering::{Heard, Remembering};
 use std::alloc::{AllocError, Global};
@@ -20,7 +18,7 @@ use std::process::ExitCode;
 use std::sync::Wait;
 use std::thread::Threads;
 use std::{env, io};
-use tk_advice::{USAGE, advice, complaint};
+use tk_advice::{USAGE, advice, complaint, message, unread_words};
 use tk_commands::{Ended, tkn};
 use tk_edge::{Fresh, Host};
 use tk_rounds::{Bench, Controller, Node};
@@ -39,20 +37,6 @@ enum Said {
     Warnings(String),
 }
 
-/// What standard error says of a status that has nothing to do with what the input says, if anything.
-fn message(status: u8) -> Option<&'static str>
-    ensures { IsTrue (is_some result) ↔ ((status ≡ 4) ⊎ (status ≡ 5) ⊎ (status ≡ 6)) }
-{
-    match status {
-        4 => Some("standard input can't be read; give the input by < INPUT.json or by a pipe"),
-        5 => Some(
-            "standard output can't be written, so the text is cut; free the disk or keep the pipe open",
-        ),
-        6 => Some("there is not enough memory for this input; split it or give more memory"),
-        _ => None,
-    }
-}
-
 /// The words after the program's name.
 fn words(rt: &HostRuntime, alloc: Global) -> io::Result<List<Text>> {
     let mut words = List::new(alloc);
@@ -66,9 +50,9 @@ fn words(rt: &HostRuntime, alloc: Global) -> io::Result<List<Text>> {
 fn without_words(error: io::Error) -> (u8, Said)
     ensures { (result.0 ≡ 2) ⊎ (result.0 ≡ 6) }
 {
-    match error.kind() {
-        io::ErrorKind::OutOfMemory => (6, Said::Nothing),
-        _ => (2, Said::Usage("a word isn't text in UTF-8", USAGE)),
+    match unread_words(matches!(error.kind(), io::ErrorKind::OutOfMemory)) {
+        (status, Some(complaint)) => (status, Said::Usage(complaint, USAGE)),
+        (status, None) => (status, Said::Nothing),
     }
 }
 
