@@ -11,7 +11,5 @@ mod draw;
 mod generating;
 pub mod laws;
 mod task;
-#[cfg(test)]
-mod tests;
 
 pub use generating::generate;

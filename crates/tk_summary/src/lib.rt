@@ -6,7 +6,5 @@
 
 mod counting;
 mod line;
-#[cfg(test)]
-mod tests;
 
 pub use line::summary;
