@@ -1,3 +1,0 @@
-pub mod GracefulStop
-pub mod Tried
-pub mod TwoSteps

@@ -1,7 +1,0 @@
-use Rattle.tk_cache.specs.Fronts.{Shows}
-use Rattle.tk_cache.specs.Views.{seen}
-use Rattle.tk_label_tests.proofs.kept.sequence.Given as goal
-
--- the cache shows the journal
-abbrev pub invariant-loop-place : goal.invariant-loop-place
-invariant-loop-place l = Shows (seen l.cache) l.journal.history

@@ -1,0 +1,11 @@
+use Rattle.std.proofs.Common.{◌≡◌, length}
+use Rattle.tk_run.specs.Begun.{IsNewController}
+use Rattle.tk_program_tests.specs.Each.{Each}
+use Rattle.tk_program_tests.proofs.bench.controllers.Given as goal
+
+-- there are as many as rounds of the loop, each of them new
+abbrev pub invariant-loop : goal.invariant-loop
+invariant-loop l = record {
+  count : length l.made.items ≡ l.counter;
+  new : Each IsNewController l.made.items;
+}
