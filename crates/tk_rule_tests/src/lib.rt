@@ -1,23 +1,28 @@
-//! Tests of plain data, of references and of single rules.
+//! Tests of single rules, of the words of a command line and of how an input is read: forms as they are published elsewhere,
+//! long texts, and each call that no command makes.
 #![tactic(auto)]
 
 #[cfg(test)]
+mod fields;
+#[cfg(test)]
+mod given;
+#[cfg(test)]
 mod graphs;
 #[cfg(test)]
-mod guards;
-#[cfg(test)]
-mod matrices;
+mod long_texts;
 #[cfg(test)]
 mod names;
 #[cfg(test)]
-mod pods;
-#[cfg(test)]
-mod references;
+mod objects;
 #[cfg(test)]
 mod results;
 #[cfg(test)]
 mod spaces;
 #[cfg(test)]
+mod steps;
+#[cfg(test)]
+mod texts;
+#[cfg(test)]
 mod times;
 #[cfg(test)]
-mod types;
+mod words;

@@ -1,64 +1,33 @@
-//! Each call once.
+//! The folders of all workspaces of a pod.
 
 use std::alloc::{AllocError, Global};
 use std::test::Fail;
-use tk_space::{folder, folders, words};
-use tk_types::{Space, SpaceSpec, Text};
+use tk_space::folders;
+use tk_types::{Space, Text};
 
-fn own(alloc: Global) -> Result<Space, AllocError> {
+/// The workspace `ws` with a path in it, or `data`, which is a claim.
+fn space(alloc: Global, name: &str) -> Result<Space, AllocError> {
+    let is_own = name == "ws";
     Ok(Space {
-        name: Text::from_str(alloc, "ws")?,
-        claim: None,
-        sub: Text::from_str(alloc, "x")?,
-    })
-}
-
-fn claimed(alloc: Global) -> Result<Space, AllocError> {
-    Ok(Space {
-        name: Text::from_str(alloc, "data")?,
-        claim: Some(Text::from_str(alloc, "c")?),
-        sub: Text::new(alloc),
-    })
-}
-
-fn declared(alloc: Global, name: &str) -> Result<SpaceSpec, AllocError> {
-    Ok(SpaceSpec {
         name: Text::from_str(alloc, name)?,
-        optional: true,
+        claim: if is_own {
+            None
+        } else {
+            Some(Text::from_str(alloc, "c")?)
+        },
+        sub: Text::from_str(alloc, if is_own { "x" } else { "" })?,
     })
 }
 
 #[test]
-fn workspaces_have_folders_and_words(rt: HostRuntime) -> Result<(), Fail> {
+fn workspaces_have_folders(rt: HostRuntime) -> Result<(), Fail> {
     let alloc = rt.alloc();
-    let bound = [own(alloc)?, claimed(alloc)?];
-    let specs = [
-        declared(alloc, "ws")?,
-        declared(alloc, "more")?,
-        declared(alloc, "data")?,
-    ];
-    let first = folder(alloc, "/work", "r-a-pod-2", &bound[0])?;
-    assert_eq!(rt; first.as_str(), "/work/r-a-pod-2/ws/ws/x");
+    let bound = vec![in alloc; space(alloc, "ws")?, space(alloc, "data")?]?;
     let mut lines = String::new(alloc);
-    for path in folders(alloc, "/work", "r-a-pod-2", &bound)?.as_slice() {
-        writeln!(&mut lines, "{}", path.as_str())?;
+    for path in folders(alloc, "/work", "r-a-pod-2", bound.as_slice())?.as_slice() {
+        lines.push_str(path.as_str())?;
+        lines.push_str("\n")?;
     }
-    for word in words(alloc, "/work", "r-a-pod-2", &specs, &bound)?.as_slice() {
-        writeln!(&mut lines, "{}={}", word.key.as_str(), word.value.as_str())?;
-    }
-    assert_eq!(rt; lines.as_str(), LINES);
+    assert_eq!(rt; lines.as_str(), "/work/r-a-pod-2/ws/ws/x\n/work/claims/c\n");
     Ok(())
 }
-
-const LINES: &str = "/work/r-a-pod-2/ws/ws/x
-/work/claims/c
-workspaces.ws.path=/work/r-a-pod-2/ws/ws/x
-workspaces.ws.bound=true
-workspaces.ws.claim=
-workspaces.more.path=
-workspaces.more.bound=false
-workspaces.more.claim=
-workspaces.data.path=/work/claims/c
-workspaces.data.bound=true
-workspaces.data.claim=c
-";

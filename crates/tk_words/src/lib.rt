@@ -16,8 +16,6 @@ mod matched;
 mod ordered;
 mod reading;
 mod scan;
-#[cfg(test)]
-mod tests;
 
 pub use line::{Line, Name};
 pub use reading::read;

@@ -1,9 +1,9 @@
 //! Words of each command in each form, and the lines that they are.
 
-use crate::{Line, Name, read};
 use std::alloc::{AllocError, Global};
 use std::test::Fail;
 use tk_types::{List, Text};
+use tk_words::{Line, Name, read};
 
 /// Words with a blank between each two, and behind ` => ` the line that they are, or that they are refused. `~` stands for the
 /// empty word.
