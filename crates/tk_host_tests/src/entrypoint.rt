@@ -122,12 +122,8 @@ fn holds_over_clean<T: Abort>(
 fn a_step_waits_starts_and_ends(rt: HostRuntime) -> Result<(), Fail> {
     let alloc = rt.alloc();
     holds_over_clean(&rt, alloc, true, KEEPS_GOING)?;
-    holds_over_clean(&rt, alloc, false, STOPS)
-}
-
-#[test]
-fn a_step_breaks_behind_one_that_broke(rt: HostRuntime) -> Result<(), Fail> {
-    holds_over_clean(&rt, rt.alloc(), true, BEHIND_A_BROKEN_ONE)
+    holds_over_clean(&rt, alloc, false, STOPS)?;
+    holds_over_clean(&rt, alloc, true, BEHIND_A_BROKEN_ONE)
 }
 
 /// A host whose steps pass, and of whose calls this one fails.

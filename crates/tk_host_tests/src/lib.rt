@@ -1,5 +1,5 @@
-//! Tests of what stands outside: streams, clocks and gates, hosts in memory, over scripts and over real programs, and the
-//! entrypoints over them. They stand above the crates that they run, so that these are proved once.
+//! Tests of what stands outside, and of turns: clocks, hosts in memory, over scripts and over real programs, the entrypoints over
+//! them, and rounds of actors in threads. They stand above the crates that they run, so that these are proved once.
 #![tactic(auto)]
 
 #[cfg(test)]
@@ -7,10 +7,16 @@ mod calls;
 #[cfg(test)]
 mod clean_host;
 #[cfg(test)]
+mod clocks;
+#[cfg(test)]
 mod entrypoint;
+#[cfg(test)]
+mod log;
+#[cfg(test)]
+mod meeting;
 #[cfg(test)]
 mod real_host;
 #[cfg(test)]
 mod script_host;
 #[cfg(test)]
-mod streams;
+mod writing;

@@ -129,12 +129,6 @@ look | @/1.err => stands
 look | @/2.err => stands
 faults => 0";
 
-#[test]
-fn a_pod_of_three_steps_runs_in_turn(rt: HostRuntime) -> Result<(), Fail> {
-    assert_eq!(rt; unmet_in_folder(&rt, "pod", POD)?.as_str(), "");
-    Ok(())
-}
-
 const FILES: &str = "put | @/scripts/new folder/ä | longer before => done
 put | @/scripts/new folder/ä | abcdef => done
 look | @/scripts/new folder/ä => stands
@@ -148,23 +142,11 @@ look | @/results => none
 put | @/results => failed
 faults => 1";
 
-#[test]
-fn files_are_put_looked_for_fetched_and_cleared(rt: HostRuntime) -> Result<(), Fail> {
-    assert_eq!(rt; unmet_in_folder(&rt, "files", FILES)?.as_str(), "");
-    Ok(())
-}
-
 const CHILD: &str = r#"clear | @ => done
 start p 0 | sh | -c | printf %s "$WORD" > results/r; mkfifo results/p; exit 7 => 0
 polled 0 => exited 7
 fetch | @/results/r | 100 => größe
 fetch | @/results/p | 100 => none"#;
-
-#[test]
-fn a_child_has_its_folder_and_its_environment(rt: HostRuntime) -> Result<(), Fail> {
-    assert_eq!(rt; unmet_in_folder(&rt, "child", CHILD)?.as_str(), "");
-    Ok(())
-}
 
 const KILLED: &str = "start p 1 | sleep | 600 => 0
 poll 0 => runs
@@ -175,7 +157,10 @@ start p 2 | no-such-program => failed
 faults => 1";
 
 #[test]
-fn a_killed_child_ends_and_a_missing_program_fails(rt: HostRuntime) -> Result<(), Fail> {
+fn files_and_programs_answer_as_lines_tell(rt: HostRuntime) -> Result<(), Fail> {
+    for (name, lines) in [("pod", POD), ("files", FILES), ("child", CHILD)] {
+        assert_eq!(rt; unmet_in_folder(&rt, name, lines)?.as_str(), "");
+    }
     assert_eq!(rt; unmet(&rt, "/", KILLED)?.as_str(), "");
     Ok(())
 }

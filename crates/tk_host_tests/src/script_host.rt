@@ -97,13 +97,6 @@ clear | @/results => done
 look | @/results/r => none
 faults => 0";
 
-#[test]
-fn a_pod_of_three_steps_plays_its_script(rt: HostRuntime) -> Result<(), Fail> {
-    let alloc = rt.alloc();
-    let mut host = host_of(alloc, &[])?;
-    lines_hold(&rt, alloc, &mut host, POD)
-}
-
 const STARTED: &str = "start p 1 => 0
 poll 0 => exited 3
 poll 0 => exited 3
@@ -116,10 +109,13 @@ poll 2 => exited 0
 look | @/results/r => stands";
 
 #[test]
-fn a_started_child_ends_with_its_exit(rt: HostRuntime) -> Result<(), Fail> {
+fn a_pod_plays_its_script(rt: HostRuntime) -> Result<(), Fail> {
     let alloc = rt.alloc();
-    let mut host = host_of(alloc, &[])?;
-    lines_hold(&rt, alloc, &mut host, STARTED)
+    for lines in [POD, STARTED] {
+        let mut host = host_of(alloc, &[])?;
+        lines_hold(&rt, alloc, &mut host, lines)?;
+    }
+    Ok(())
 }
 
 /// One call of each kind, the last on what the one before it launched.

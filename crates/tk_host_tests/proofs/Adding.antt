@@ -3,7 +3,7 @@ use Rattle.std.proofs.Common.{◌≡◌, ℕ, suc, Bool, eq-eqb, cond, List, [],
 use Rattle.std.proofs.lemmas.List.{map-append}
 use Rattle.std.proofs.lemmas.List.Elements.{All-nil, All-cons}
 use Rattle.tk_turn.specs.Claims.{Note, written_by}
-use Rattle.tk_pass_tests.specs.Sample.{note_of, numbered}
+use Rattle.tk_host_tests.specs.Sample.{note_of, numbered}
 use Rattle.tk_turn.proofs.Seats.{written_append}
 use Rattle.tk_passes.specs.Notes.{Adds, NoneOf}
 use Rattle.tk_passes.proofs.Standing.{none_written}

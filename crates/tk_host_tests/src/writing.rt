@@ -21,7 +21,7 @@ struct Writer {
 
 impl Actor<Log> for Writer {
     ghost use Rattle.tk_turn.specs.Claims.{written_by};
-    ghost use Rattle.tk_pass_tests.specs.Sample.{numbered};
+    ghost use Rattle.tk_host_tests.specs.Sample.{numbered};
 
     ghost number = { λ w. w.number };
 

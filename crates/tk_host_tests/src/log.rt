@@ -1,7 +1,7 @@
 //! A journal of pairs, an owner and a value.
 ghost use Rattle.std.specs.Prelude.{◌≡◌, ◌++◌, ◌∷◌, [], map, IfOk, MatchBool};
 ghost use Rattle.tk_turn.specs.Claims.{whole};
-ghost use Rattle.tk_pass_tests.specs.Sample.{note_of};
+ghost use Rattle.tk_host_tests.specs.Sample.{note_of};
 
 use std::alloc::{AllocError, Global};
 use std::test::Fail;
@@ -14,7 +14,7 @@ pub(crate) struct Log {
 
 impl Journaled for Log {
     ghost use Rattle.std.specs.Prelude.{map};
-    ghost use Rattle.tk_pass_tests.specs.Sample.{note_of};
+    ghost use Rattle.tk_host_tests.specs.Sample.{note_of};
 
     ghost journal = { λ s. map note_of s.entries.items };
 

@@ -1,5 +1,5 @@
-use Rattle.tk_pass_tests.proofs.Adding.{none_added, one_added}
-use Rattle.tk_pass_tests.proofs.meeting.GuestActorLog.take_turn.Goals as goal
+use Rattle.tk_host_tests.proofs.Adding.{none_added, one_added}
+use Rattle.tk_host_tests.proofs.meeting.GuestActorLog.take_turn.Goals as goal
 
 pub returns-then-not-add-clause-adds : goal.returns-then-not-add-clause-adds
 returns-then-not-add-clause-adds c = none_added c.args.self.now.number c.args.state.now.entries.items c.add.new.self.entries.items c.if-not-add.ensures

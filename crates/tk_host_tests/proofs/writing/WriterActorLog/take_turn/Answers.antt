@@ -1,6 +1,6 @@
 use Rattle.std.proofs.Common.{◌+◌, refl, arith}
-use Rattle.tk_pass_tests.proofs.Adding.{none_added, one_added, one_written}
-use Rattle.tk_pass_tests.proofs.writing.WriterActorLog.take_turn.Goals as goal
+use Rattle.tk_host_tests.proofs.Adding.{none_added, one_added, one_written}
+use Rattle.tk_host_tests.proofs.writing.WriterActorLog.take_turn.Goals as goal
 
 pub returns-then-self-clause-adds : goal.returns-then-self-clause-adds
 returns-then-self-clause-adds c = none_added c.args.self.now.number c.args.state.now.entries.items c.args.state.now.entries.items refl
