@@ -17,6 +17,7 @@ pub fn message(status: u8) -> Option<&'static str>
 /// The status with which a program ends whose words can't be had, for want of memory or since one isn't text, and what is said
 /// before the usage, where that is shown.
 pub fn unread_words(lacks_memory: bool) -> (u8, Option<&'static str>)
+    ensures known { (result.0 ≡ 2) ⊎ (result.0 ≡ 6) }
     ensures status { result.0 ≡ (if lacks_memory then 6 else 2) }
     ensures usage { IsTrue (is_some result.1) ↔ (result.0 ≡ 2) }
 {
