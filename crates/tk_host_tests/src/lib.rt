@@ -17,6 +17,8 @@ mod meeting;
 #[cfg(test)]
 mod real_host;
 #[cfg(test)]
+mod roots;
+#[cfg(test)]
 mod script_host;
 #[cfg(test)]
 mod writing;

@@ -129,6 +129,22 @@ look | @/1.err => stands
 look | @/2.err => stands
 faults => 0";
 
+/// Steps that leave the files of others, or take them away.
+const FORGED: &str = "clear | @ => done
+launch p 0 | @/start | @/0 | sh | -c | touch 0.err 1 1.err; exit 0 => 0
+launch p 1 | @/0 | @/1 | sh | -c | rm 0; exit 0 => 1
+launch p 2 | @/1 | @/2 | sh | -c | exit 0 => 2
+put | @/start => done
+watch 0 => started
+watched 0 => passed 0
+watch 2 => waits
+watch 1 => started
+watch 2 => waits
+watched 1 => passed 0
+watch 2 => started
+watched 2 => passed 0
+faults => 0";
+
 const FILES: &str = "put | @/scripts/new folder/ä | longer before => done
 put | @/scripts/new folder/ä | abcdef => done
 look | @/scripts/new folder/ä => stands
@@ -158,7 +174,12 @@ faults => 1";
 
 #[test]
 fn files_and_programs_answer_as_lines_tell(rt: HostRuntime) -> Result<(), Fail> {
-    for (name, lines) in [("pod", POD), ("files", FILES), ("child", CHILD)] {
+    for (name, lines) in [
+        ("pod", POD),
+        ("forged", FORGED),
+        ("files", FILES),
+        ("child", CHILD),
+    ] {
         assert_eq!(rt; unmet_in_folder(&rt, name, lines)?.as_str(), "");
     }
     assert_eq!(rt; unmet(&rt, "/", KILLED)?.as_str(), "");

@@ -1,5 +1,6 @@
 //! A host over the folders, files and programs of the machine. It tells no file, since whatever else runs on the machine
-//! may change them.
+//! may change them. What its own history says of a step's files counts, whatever a step did to them since: so no step can
+//! stand in for another, or keep one waiting. Each call that fails is told on standard error, with the system's reason.
 ghost use Rattle.std.specs.Prelude.{◌≡◌, ◌<◌, ℕ, true, false, List, [], ◌∷◌, Option, Some, None, IfOk, OnOk, OnErr, Err, vec_len, vec_capacity};
 ghost use Rattle.std.specs.Option.{is_some};
 ghost use Rattle.tk_edge.specs.declared.miss.Miss.TheVariants.{Memory, Failed as Fails};
@@ -9,30 +10,26 @@ ghost use Rattle.tk_edge.specs.History.{Has, StillWaits, MayStart, arming_of, or
 ghost use Rattle.tk_edge.specs.HostLog.{counts, flags};
 ghost use Rattle.tk_edge.specs.Calls.{TellsWatch};
 
+use crate::children::{Step, advice_on_start, find_exit, spawn_order};
+use crate::files::{Trouble, is_plain, make_folder, read_file, remove_folder, write_file};
 use std::alloc::{AllocError, Global};
-use std::io::{ErrorKind, Read};
-use std::path::Path;
-use std::process::{Child, Command, ExitStatus, OpenProcess, Processes, Stdio};
+use std::fs;
+use std::io::Eprint;
+use std::process::Processes;
 use std::rt::Files;
-use std::{fs, io};
 use tk_edge::{
     Arming, Failed, Host, HostLog, Miss, Order, Poll, Watch, arming_from, broken, bytes_of,
     copy_bytes, ended, passes, push_within,
 };
 use tk_types::{Bytes, Text, TryCopy};
 
-// The process of a child once it was started, and its exit once that was found.
-#[derive(Drop)]
-struct Step<P: OpenProcess> {
-    running: Option<Child<P>>,
-    found: Option<u8>,
-}
-
 /// The machine's folders, files and programs. A watch that only waits takes no memory.
 pub struct RealHost<'a, R: Processes> {
     rt: &'a R,
     alloc: Global,
     path: Text,
+    aside: Option<Text>,
+    moved: u64,
     log: HostLog,
     steps: Vec<Step<R::Started>>,
     faults: u64,
@@ -44,6 +41,8 @@ impl<'a, R: Processes> Drop for RealHost<'a, R> {
             rt: _,
             alloc: _,
             path: _,
+            aside: _,
+            moved: _,
             log: _,
             steps: _,
             faults: _,
@@ -51,7 +50,7 @@ impl<'a, R: Processes> Drop for RealHost<'a, R> {
     }
 }
 
-impl<'a, R: Processes + Files> RealHost<'a, R> {
+impl<'a, R: Processes + Files + Eprint> RealHost<'a, R> {
     /// A host that did nothing, whose programs are looked for in the folders of `path`, which are separated by colons.
     /// The only error is want of memory.
     pub fn new(rt: &'a R, alloc: Global, path: &str) -> Result<Self, AllocError>
@@ -65,6 +64,8 @@ impl<'a, R: Processes + Files> RealHost<'a, R> {
             rt,
             alloc,
             path: Text::from_str(alloc, path)?,
+            aside: None,
+            moved: 0,
             log: HostLog::new(alloc),
             steps: Vec::new(alloc),
             faults: 0,
@@ -96,8 +97,81 @@ impl<'a, R: Processes> RealHost<'a, R> {
     }
 }
 
-impl<'a, R: Processes + Files> RealHost<'a, R> {
+// What became of the entry behind which another one waits.
+enum Before {
+    Open,
+    Passed,
+    Broke,
+}
+
+impl<'a, R: Processes> RealHost<'a, R> {
+    // What became of the entry before this one. Nothing is before a pod's first one.
+    fn before(&self, child: u64) -> Before {
+        let Some(step) = self.steps.get(child as usize) else {
+            return Before::Open;
+        };
+        let Some(earlier) = step.behind else {
+            return Before::Passed;
+        };
+        if self.log.is_refused(earlier) {
+            return Before::Broke;
+        }
+        match (self.log.arming(earlier), self.log.exit(earlier)) {
+            (Some(arming), Some(exit)) if passes(arming.keep_going, exit) => Before::Passed,
+            (_, Some(_)) => Before::Broke,
+            _ => Before::Open,
+        }
+    }
+
+    // Where the next old folder is to go.
+    fn away(&mut self) -> Result<Option<Text>, AllocError>
+        ensures log { self.new.log ≡ self.old.log }
+        ensures faults { self.new.faults ≡ self.old.faults }
+    {
+        let Some(aside) = &self.aside else {
+            return Ok(None);
+        };
+        self.moved = self.moved.saturating_add(1);
+        let folder = aside.as_str();
+        let number = self.moved;
+        Ok(Some(Text::from_string(format!(in self.alloc; "{folder}/{number}")?)))
+    }
+
+    // Whether the entry is of the pod and leaves this post file.
+    fn is_entry(&self, child: u64, pod: &str, post: &str) -> bool {
+        match self.log.arming(child) {
+            Some(arming) => arming.order.pod.as_str() == pod && arming.post.as_str() == post,
+            None => false,
+        }
+    }
+
+    // The newest entry of the order's pod that leaves what this order waits for. The steps of a pod are armed one behind the
+    // other, so it is found at once.
+    fn entry_before(&self, order: &Order, wait: &str) -> Option<u64> {
+        if order.step == 0 {
+            return None;
+        }
+        for child in (0..self.log.count()).rev() {
+            if self.is_entry(child, order.pod.as_str(), wait) {
+                return Some(child);
+            }
+        }
+        None
+    }
+}
+
+impl<'a, R: Processes + Files + Eprint> RealHost<'a, R> {
     ghost use Rattle.std.specs.Prelude.{IsTrue};
+
+    /// From now on, what stood in a folder that is cleared is moved below this one, in one step, and removed by nobody here.
+    pub fn move_old_to(&mut self, folder: Text)
+        ensures told { ⟦<RealHost<'a, R> as Host>⟧.told self.new ≡ ⟦<RealHost<'a, R> as Host>⟧.told self.old }
+        ensures killed { ⟦<RealHost<'a, R> as Host>⟧.killed self.new ≡ ⟦<RealHost<'a, R> as Host>⟧.killed self.old }
+        ensures watches { ⟦<RealHost<'a, R> as Host>⟧.watches self.new ≡ ⟦<RealHost<'a, R> as Host>⟧.watches self.old }
+        ensures faults { ⟦<RealHost<'a, R> as Host>⟧.faults self.new ≡ ⟦<RealHost<'a, R> as Host>⟧.faults self.old }
+    {
+        self.aside = Some(folder);
+    }
 
     /// Whether the child is armed. It takes no memory.
     pub fn is_armed(&self, child: u64) -> bool
@@ -114,184 +188,7 @@ impl<'a, R: Processes + Files> RealHost<'a, R> {
     }
 }
 
-// Nothing stands at the path.
-fn is_absent(kind: ErrorKind) -> bool {
-    matches!(kind, ErrorKind::NotFound | ErrorKind::NotADirectory)
-}
-
-// Whether a plain file stands at the path.
-fn is_plain<R: Files>(rt: &R, path: &str) -> Result<bool, Miss> {
-    match rt.metadata(path) {
-        Ok(metadata) => Ok(metadata.is_file()),
-        Err(error) if is_absent(error.kind()) => Ok(false),
-        Err(_) => Err(Miss::Failed),
-    }
-}
-
-// Whether something other than a plain file stands at the path. To open a pipe would wait for its other end.
-fn is_blocked<R: Files>(rt: &R, path: &str) -> bool {
-    match rt.metadata(path) {
-        Ok(metadata) => !metadata.is_file(),
-        Err(_) => false,
-    }
-}
-
-// Writes the file, and makes the folders above it only where they aren't there.
-fn write_file<R: Files>(rt: &R, path: &str, bytes: &[u8]) -> Result<(), Failed> {
-    if is_blocked(rt, path) {
-        return Err(Failed);
-    }
-    match fs::write(rt, path, bytes) {
-        Ok(()) => return Ok(()),
-        Err(error) if error.kind() == ErrorKind::NotFound => {}
-        Err(_) => return Err(Failed),
-    }
-    if let Some(folder) = Path::new(path).parent() {
-        if fs::create_dir_all(rt, folder).is_err() {
-            return Err(Failed);
-        }
-    }
-    fs::write(rt, path, bytes).map_err(|_| Failed)
-}
-
-// The folder of results in a folder.
-fn results_of(alloc: Global, folder: &str) -> Result<Text, AllocError> {
-    let mut path = String::from_str(alloc, folder)?;
-    path.push_str("/results")?;
-    Ok(Text::from_string(path))
-}
-
-// Removes the folder with all in it, and makes it and its folder of results anew.
-fn clear_folder<R: Files>(
-    rt: &R,
-    alloc: Global,
-    folder: &str,
-    results: &str,
-) -> Result<(), Failed> {
-    match rt.remove_dir_all(alloc, folder) {
-        Ok(()) => {}
-        Err(error) if is_absent(error.kind()) => {}
-        Err(_) => return Err(Failed),
-    }
-    fs::create_dir_all(rt, results).map_err(|_| Failed)
-}
-
-// The file's first bytes.
-fn read_file<R: Files>(
-    rt: &R,
-    alloc: Global,
-    path: &str,
-    limit: u64,
-) -> Result<Option<Bytes>, Miss> {
-    if !is_plain(rt, path)? {
-        return Ok(None);
-    }
-    let file = match fs::open(rt, path) {
-        Ok(file) => file,
-        Err(error) if is_absent(error.kind()) => return Ok(None),
-        Err(_) => return Err(Miss::Failed),
-    };
-    let mut bytes = Vec::new(alloc);
-    match file.take(limit).read_to_end(&mut bytes) {
-        Ok(_) => Ok(Some(Bytes::from_vec(bytes))),
-        Err(error) if error.kind() == ErrorKind::OutOfMemory => Err(Miss::Memory),
-        Err(_) => Err(Miss::Failed),
-    }
-}
-
-// The command of an order: its own environment and no standard stream.
-fn command_of(
-    alloc: Global,
-    path: &str,
-    program: &str,
-    order: &Order,
-) -> Result<Command, AllocError> {
-    let mut command = Command::new(alloc, program)?;
-    for word in order.argv.as_slice().iter().skip(1) {
-        command.arg(word.as_str())?;
-    }
-    command.env_clear();
-    command.env("PATH", path)?;
-    for pair in order.env.as_slice() {
-        command.env(pair.key.as_str(), pair.value.as_str())?;
-    }
-    command.current_dir(order.dir.as_str())?;
-    command.stdin(Stdio::null());
-    command.stdout(Stdio::null());
-    command.stderr(Stdio::null());
-    Ok(command)
-}
-
-// Starts the order. One without a program can't be started.
-fn spawn_order<R: Processes>(
-    rt: &R,
-    alloc: Global,
-    path: &str,
-    order: &Order,
-) -> Result<Child<R::Started>, Miss> {
-    let Some(program) = order.argv.as_slice().first() else {
-        return Err(Miss::Failed);
-    };
-    let mut command = command_of(alloc, path, program.as_str(), order)?;
-    match command.spawn(rt) {
-        Ok(child) => Ok(child),
-        Err(error) if error.kind() == ErrorKind::OutOfMemory => Err(Miss::Memory),
-        Err(_) => Err(Miss::Failed),
-    }
-}
-
-// A child that ended without a code has exit 255.
-fn exit_of_status(status: ExitStatus) -> u8 {
-    match status.code() {
-        Some(code) => u8::try_from(code).unwrap_or(255),
-        None => 255,
-    }
-}
-
-impl<P: OpenProcess + Drop> Step<P> {
-    // The exit of the process, where it ended. It is kept from then on.
-    fn exit(&mut self) -> Result<Option<u8>, Failed> {
-        if self.found.is_none() {
-            let Some(process) = &mut self.running else {
-                return Err(Failed);
-            };
-            match process.try_wait() {
-                Ok(None) => {}
-                Ok(Some(status)) => self.found = Some(exit_of_status(status)),
-                Err(_) => return Err(Failed),
-            }
-        }
-        Ok(self.found)
-    }
-
-    fn kill(&mut self) -> Result<(), Failed> {
-        match &mut self.running {
-            Some(process) if self.found.is_none() => process.kill().map_err(|_| Failed),
-            _ => Ok(()),
-        }
-    }
-}
-
-// Whether the wait file of an entry stands.
-enum Wait {
-    Missing,
-    Broke,
-    Stands,
-}
-
-// It takes no memory.
-fn look_for_wait<R: Files>(rt: &R, wait: &Text, failed: &Text) -> Result<Wait, Miss> {
-    if is_plain(rt, failed.as_str())? {
-        return Ok(Wait::Broke);
-    }
-    if is_plain(rt, wait.as_str())? {
-        Ok(Wait::Stands)
-    } else {
-        Ok(Wait::Missing)
-    }
-}
-
-impl<'a, R: Processes + Files> RealHost<'a, R> {
+impl<'a, R: Processes + Files + Eprint> RealHost<'a, R> {
     // The turn of an entry that neither started nor was refused nor was killed.
     fn first_turn(&mut self, child: u64) -> Result<Watch, Miss>
         requires waits { StillWaits child self.old.log.told }
@@ -302,25 +199,23 @@ impl<'a, R: Processes + Files> RealHost<'a, R> {
         ensures children { self.new.log.count ≡ self.old.log.count }
         ensures count { Counts self.old.faults self.new.faults result }
     {
-        let (Some(arming), Some(failed)) = (self.log.arming(child), self.log.failed_wait(child))
-        else {
+        let Some(arming) = self.log.arming(child) else {
             return self.fail();
         };
-        match look_for_wait(self.rt, &arming.wait, failed) {
-            Ok(Wait::Missing) => Ok(Watch::Waits),
-            Ok(Wait::Broke) => self.refuse(child),
-            Ok(Wait::Stands) => {
+        match self.before(child) {
+            Before::Open => Ok(Watch::Waits),
+            Before::Broke => self.refuse(child),
+            Before::Passed => {
                 if self.log.may_start(arming) {
                     self.begin(child)
                 } else {
                     Ok(Watch::Waits)
                 }
             }
-            Err(miss) => self.miss(miss),
         }
     }
 
-    // The wait file stood with `.err`: so does the post file, from now on.
+    // The entry before it broke or was refused: so is this one, from now on.
     fn refuse(&mut self, child: u64) -> Result<Watch, Miss>
         requires waits { StillWaits child self.old.log.told }
         requires armed { Has (arming_of child self.old.log.told) (λ _. Unit {0}) }
@@ -340,7 +235,10 @@ impl<'a, R: Processes + Files> RealHost<'a, R> {
                 self.log.refused(child);
                 Ok(Watch::Broke { exit: None })
             }
-            Err(Failed) => self.fail(),
+            Err(trouble) => {
+                tell_of_file(self.rt, "write", post.as_str(), &trouble);
+                self.fail()
+            }
         }
     }
 
@@ -368,7 +266,10 @@ impl<'a, R: Processes + Files> RealHost<'a, R> {
                 self.log.started(child, order);
                 Ok(Watch::Started)
             }
-            Err(miss) => self.miss(miss),
+            Err(trouble) => {
+                let miss = tell_of_start(self.rt, &order, &trouble);
+                self.miss(miss)
+            }
         }
     }
 
@@ -387,7 +288,10 @@ impl<'a, R: Processes + Files> RealHost<'a, R> {
         let exit = match find_exit(&mut self.steps, child) {
             Ok(Some(exit)) => exit,
             Ok(None) => return Ok(Watch::Runs),
-            Err(Failed) => return self.fail(),
+            Err(trouble) => {
+                tell_of_child(self.rt, "looked for", child, &trouble);
+                return self.fail();
+            }
         };
         let Some(arming) = self.log.arming(child) else {
             return self.fail();
@@ -399,7 +303,10 @@ impl<'a, R: Processes + Files> RealHost<'a, R> {
                 self.log.exited(child, exit);
                 Ok(watch)
             }
-            Err(Failed) => self.fail(),
+            Err(trouble) => {
+                tell_of_file(self.rt, "write", post.as_str(), &trouble);
+                self.fail()
+            }
         }
     }
 
@@ -432,15 +339,71 @@ impl<'a, R: Processes + Files> RealHost<'a, R> {
     }
 }
 
-// The exit of the child's process, where it ended.
-fn find_exit<P: OpenProcess + Drop>(
-    steps: &mut Vec<Step<P>>,
-    child: u64,
-) -> Result<Option<u8>, Failed> {
-    match steps.get_mut(child as usize) {
-        Some(step) => step.exit(),
-        None => Err(Failed),
+// The folder of results in a folder.
+fn results_of(alloc: Global, folder: &str) -> Result<Text, AllocError> {
+    let mut path = String::from_str(alloc, folder)?;
+    path.push_str("/results")?;
+    Ok(Text::from_string(path))
+}
+
+// Moves the folder where it is to go, if that is said and can be done, and else removes it with all in it.
+fn leave_folder<R: Files>(
+    rt: &R,
+    alloc: Global,
+    folder: &str,
+    away: &Option<Text>,
+) -> Result<(), Trouble> {
+    if let Some(away) = away {
+        if fs::rename(rt, folder, away.as_str()).is_ok() {
+            return Ok(());
+        }
     }
+    remove_folder(rt, alloc, folder)?;
+    Ok(())
+}
+
+// Makes the folder anew, with its folder of results.
+fn clear_folder<R: Files>(
+    rt: &R,
+    alloc: Global,
+    folder: &str,
+    results: &str,
+    away: &Option<Text>,
+) -> Result<(), Trouble> {
+    leave_folder(rt, alloc, folder, away)?;
+    make_folder(rt, results)?;
+    Ok(())
+}
+
+// Says why a call on a file or a folder failed, as far as standard error takes it.
+fn tell_of_file<R: Eprint>(rt: &R, tried: &str, path: &str, trouble: &Trouble) -> Miss {
+    if let Trouble::Memory = trouble {
+        return Miss::Memory;
+    }
+    let advice = trouble.advice();
+    let _ = eprintln!(rt; "tkn: can't {tried} {path:?}: {trouble}; {advice}");
+    Miss::Failed
+}
+
+// Says why an order couldn't be started.
+fn tell_of_start<R: Eprint + Files>(rt: &R, order: &Order, trouble: &Trouble) -> Miss {
+    if let Trouble::Memory = trouble {
+        return Miss::Memory;
+    }
+    let pod = order.pod.as_str();
+    let step = order.step;
+    let program = match order.argv.as_slice().first() {
+        Some(program) => program.as_str(),
+        None => "",
+    };
+    let advice = advice_on_start(rt, order, trouble);
+    let _ = eprintln!(rt; "tkn: {pod}: step {step} can't start {program:?}: {trouble}; {advice}");
+    Miss::Failed
+}
+
+// Says what couldn't be done with a child.
+fn tell_of_child<R: Eprint>(rt: &R, tried: &str, child: u64, trouble: &Trouble) {
+    let _ = eprintln!(rt; "tkn: child {child} can't be {tried}: {trouble}");
 }
 
 // The file that an entry leaves when it ended.
@@ -452,7 +415,7 @@ fn post_of(alloc: Global, arming: &Arming, exit: u8) -> Result<Text, AllocError>
     }
 }
 
-impl<'a, R: Processes + Files> Host for RealHost<'a, R> {
+impl<'a, R: Processes + Files + Eprint> Host for RealHost<'a, R> {
     ghost told = { λ host. host.log.told };
 
     ghost killed = { λ host. flags host.log.killed };
@@ -469,13 +432,15 @@ impl<'a, R: Processes + Files> Host for RealHost<'a, R> {
         let told = Text::from_str(self.alloc, folder)?;
         let results = results_of(self.alloc, folder)?;
         self.log.make_room()?;
-        match clear_folder(self.rt, self.alloc, folder, results.as_str()) {
+        let away = self.away()?;
+        match clear_folder(self.rt, self.alloc, folder, results.as_str(), &away) {
             Ok(()) => {
                 self.log.note_clear(told, true);
                 Ok(())
             }
-            Err(Failed) => {
+            Err(trouble) => {
                 self.log.note_clear(told, false);
+                tell_of_file(self.rt, "make anew", folder, &trouble);
                 self.fail()
             }
         }
@@ -490,8 +455,9 @@ impl<'a, R: Processes + Files> Host for RealHost<'a, R> {
                 self.log.note_put(told, kept, true);
                 Ok(())
             }
-            Err(Failed) => {
+            Err(trouble) => {
                 self.log.note_put(told, kept, false);
+                tell_of_file(self.rt, "write", path, &trouble);
                 self.fail()
             }
         }
@@ -500,7 +466,10 @@ impl<'a, R: Processes + Files> Host for RealHost<'a, R> {
     fn look(&mut self, path: &str) -> Result<bool, Miss> {
         match is_plain(self.rt, path) {
             Ok(stands) => Ok(stands),
-            Err(miss) => self.miss(miss),
+            Err(trouble) => {
+                let miss = tell_of_file(self.rt, "look for", path, &trouble);
+                self.miss(miss)
+            }
         }
     }
 
@@ -513,7 +482,10 @@ impl<'a, R: Processes + Files> Host for RealHost<'a, R> {
                 self.log.note_fetched(told, kept);
                 Ok(bytes)
             }
-            Err(miss) => self.miss(miss),
+            Err(trouble) => {
+                let miss = tell_of_file(self.rt, "read", path, &trouble);
+                self.miss(miss)
+            }
         }
     }
 
@@ -529,11 +501,15 @@ impl<'a, R: Processes + Files> Host for RealHost<'a, R> {
                     Step {
                         running: Some(process),
                         found: None,
+                        behind: None,
                     },
                 );
                 Ok(child)
             }
-            Err(miss) => self.miss(miss),
+            Err(trouble) => {
+                let miss = tell_of_start(self.rt, order, &trouble);
+                self.miss(miss)
+            }
         }
     }
 
@@ -551,7 +527,10 @@ impl<'a, R: Processes + Files> Host for RealHost<'a, R> {
                 Ok(Poll::Exited(exit))
             }
             Ok(None) => Ok(Poll::Runs),
-            Err(Failed) => self.fail(),
+            Err(trouble) => {
+                tell_of_child(self.rt, "looked for", child, &trouble);
+                self.fail()
+            }
         }
     }
 
@@ -563,6 +542,7 @@ impl<'a, R: Processes + Files> Host for RealHost<'a, R> {
         keep_going: bool,
     ) -> Result<u64, Miss> {
         let arming = arming_from(self.alloc, order, wait, post, keep_going)?;
+        let behind = self.entry_before(order, wait);
         self.steps.reserve(1)?;
         let child = self.log.arm(self.alloc, arming)?;
         push_within(
@@ -570,6 +550,7 @@ impl<'a, R: Processes + Files> Host for RealHost<'a, R> {
             Step {
                 running: None,
                 found: None,
+                behind,
             },
         );
         Ok(child)
@@ -595,9 +576,13 @@ impl<'a, R: Processes + Files> Host for RealHost<'a, R> {
             Some(step) => step.kill(),
             None => Ok(()),
         };
-        if ended.is_err() {
-            self.faults = self.faults.saturating_add(1);
+        match ended {
+            Ok(()) => Ok(()),
+            Err(trouble) => {
+                tell_of_child(self.rt, "killed", child, &trouble);
+                self.faults = self.faults.saturating_add(1);
+                Err(Failed)
+            }
         }
-        ended
     }
 }

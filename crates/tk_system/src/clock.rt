@@ -18,10 +18,12 @@ fn reading(last: u64, time: Option<u128>) -> u64
     }
 }
 
-/// The system's clock. It tells no list of readings.
+/// The system's clocks: moments count from the wall clock as it stood when this was made, and go on with the clock that is
+/// never set. It tells no list of readings.
 #[derive(Drop)]
 pub struct SystemClock<C> {
     time: C,
+    start: u128,
     last: u64,
     ghost within: { last ≤ last_moment },
 }
@@ -29,15 +31,28 @@ pub struct SystemClock<C> {
 impl<C: Time> SystemClock<C> {
     /// A clock over the system's, of which it takes a reading. It is 0 where there is none.
     pub fn new(time: C) -> Self {
-        let last = reading(0, millis(&time));
-        SystemClock { time, last }
+        let wall = since_1970(&time);
+        let start = match (wall, running(&time)) {
+            (Some(wall), Some(running)) => wall.saturating_sub(running),
+            _ => 0,
+        };
+        let last = reading(0, wall);
+        SystemClock { time, start, last }
     }
 }
 
-/// The system's time in milliseconds since 1970-01-01 UTC, where it gives one.
-fn millis<C: Time>(time: &C) -> Option<u128> {
+/// The wall clock's time in milliseconds since 1970-01-01 UTC, where the system gives one.
+fn since_1970<C: Time>(time: &C) -> Option<u128> {
     match time.since_1970() {
         Ok(since) => Some(since.as_millis()),
+        Err(_) => None,
+    }
+}
+
+/// The milliseconds of the clock that is never set, where the system gives them.
+fn running<C: Time>(time: &C) -> Option<u128> {
+    match time.monotonic() {
+        Ok(running) => Some(running.as_millis()),
         Err(_) => None,
     }
 }
@@ -50,7 +65,11 @@ impl<C: Time> Clock for SystemClock<C> {
     ghost readings = { λ _. None };
 
     fn now(&mut self) -> u64 {
-        self.last = reading(self.last, millis(&self.time));
+        let time = match running(&self.time) {
+            Some(running) => running.checked_add(self.start),
+            None => None,
+        };
+        self.last = reading(self.last, time);
         self.last
     }
 
