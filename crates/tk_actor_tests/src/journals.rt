@@ -1,5 +1,5 @@
 //! Journals of inputs that are played to their end, and caches that show them.
-ghost use Rattle.std.specs.Prelude.{OnOk};
+ghost use Rattle.std.specs.Prelude.{IfOk, OnOk};
 ghost use Rattle.std.specs.Option.{ForSome};
 ghost use Rattle.tk_cache.specs.Fronts.{Shows};
 ghost use Rattle.tk_cache.specs.Views.{seen};
@@ -42,4 +42,15 @@ pub(crate) fn show(
     ensures { OnOk result (Shows (seen cache.new) journal.now.history) }
 {
     cache.relist(journal, kind, position.min(journal.len()))
+}
+
+/// Delivers all runs and TaskRuns of a journal to a cache that has seen nothing of it.
+pub(crate) fn delivered(alloc: Global, journal: &Journal) -> Result<RunCache, AllocError>
+    requires { IsLegal journal.now.history }
+    ensures { IfOk result (λ cache. Shows (seen cache) journal.now.history) }
+{
+    let mut cache = fresh(alloc, journal);
+    cache.deliver(journal, Kind::Runs, u64::MAX)?;
+    cache.deliver(journal, Kind::TaskRuns, u64::MAX)?;
+    Ok(cache)
 }

@@ -5,7 +5,7 @@ ghost use Rattle.tk_cache.specs.Fronts.{Shows};
 ghost use Rattle.tk_cache.specs.Views.{seen};
 ghost use Rattle.tk_journal.specs.Legal.{IsLegal};
 
-use crate::journals::{fresh, journal_of, show};
+use crate::journals::{delivered, fresh, journal_of, show};
 use std::alloc::{AllocError, Global};
 use std::test::Fail;
 use tk_gen::generate;
@@ -177,7 +177,8 @@ impl Tally {
         self.compare(alloc, cache)
     }
 
-    /// Compares at each position of a journal, once the TaskRuns are shown and again once the runs are.
+    /// Compares at each position of a journal, once the TaskRuns are shown and again once the runs are, and where all was
+    /// delivered at once.
     fn go(&mut self, alloc: Global, journal: &Journal) -> Result<(), AllocError>
         requires { IsLegal journal.now.history }
     {
@@ -186,7 +187,7 @@ impl Tally {
             self.step(alloc, &mut cache, journal, (Kind::TaskRuns, place + 1))?;
             self.step(alloc, &mut cache, journal, (Kind::Runs, place + 1))?;
         }
-        Ok(())
+        self.compare(alloc, &delivered(alloc, journal)?)
     }
 }
 
@@ -211,7 +212,7 @@ fn kept_labels_are_those_made_anew(rt: HostRuntime) -> Result<(), Fail> {
     for number in 1..51 {
         assert!(rt; tallied(alloc, number, &mut tally)?);
     }
-    assert_eq!(rt; (tally.same, tally.different), (3810, 0));
+    assert_eq!(rt; (tally.same, tally.different), (3860, 0));
     assert!(rt; tally.stopped > 0 && tally.done > 0);
     Ok(())
 }
