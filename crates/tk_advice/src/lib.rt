@@ -17,4 +17,4 @@ mod words;
 pub use ends::{message, unread_words};
 pub use input::advice;
 pub use start_warnings::{Unready, warnings};
-pub use words::{USAGE, complaint};
+pub use words::{BadWords, USAGE, complaint, help, of_all};

@@ -3,7 +3,7 @@
 use crate::rows::words;
 use std::alloc::{AllocError, Global};
 use std::test::Fail;
-use tk_advice::{USAGE, Unready, advice, complaint, message, unread_words, warnings};
+use tk_advice::{USAGE, Unready, advice, complaint, help, message, unread_words, warnings};
 
 /// A line, an input where it counts, and behind `=> ` the beginning and the end of what is said of it, with two dots between
 /// them. In an input `\n` stands for a line feed, `^` for a byte order mark, and `~` for a byte that no text has.
@@ -82,16 +82,26 @@ fn faults_and_inputs_have_their_sentences(rt: HostRuntime) -> Result<(), Fail> {
     Ok(())
 }
 
-/// Words that are no command, a status, or why words can't be had, and behind `=> ` what is said of it.
-const WORDS: &str = "tkn @none => there is no command
-tkn --help => runs Tekton's PipelineRuns and TaskRuns on this machine
-tkn --version => runs Tekton's PipelineRuns and TaskRuns on this machine
-tkn build => there is no such command
-tkn check build.json => a command reads standard input; give a file by `< FILE`
-tkn simulate --jsno => an option isn't one of the command's, or stands twice
+/// Words that are no command, words that ask for help, a status, or why words can't be had, and behind `=> ` what is said of
+/// it, of help the first line.
+const WORDS: &str = r#"tkn @none => there is no command
+tkn --help more => there is no such command: "--help"
+tkn build => there is no such command: "build"
+tkn check build.json => a command reads standard input; give a file by `< FILE`: "build.json"
+tkn simulate --jsno => the command has no such option: "--jsno"
 tkn generate 1 => `generate` takes a number below 2147483648 and a size of 1 to 4000
-tkn generate --json 1 2 => an option isn't one of the command's, or stands twice
-tkn run --json --json => an option isn't one of the command's, or stands twice
+tkn generate --json 1 2 => the command has no such option: "--json"
+tkn run --json --json => an option stands once: "--json"
+tkn run --root x => the folder behind --root is given whole, from `/` on: "x"
+tkn run --root=x => the folder behind --root is given whole, from `/` on: "x"
+tkn run --root /a --root=/b => an option stands once: "--root"
+tkn run r => `run` takes options and asks of the form RUN=STATUS@DURATION: "r"
+tkn run r=Stop@1s => an ask has one of Start, StoppedRunFinally, CancelledRunFinally, Cancelled and TaskRunCancelled, then `@` and when: "r=Stop@1s"
+tkn run r=Cancelled@soon => behind `@` of an ask stands a duration such as 90s or 1m30s, and before `=` the name of a run: "r=Cancelled@soon"
+help --help => tkn runs Tekton's PipelineRuns and TaskRuns (tekton.dev/v1) on this machine, their steps as its programs.
+help --version => tkn of Wafnjold, for tekton.dev/v1
+help --help check => nothing
+help check => nothing
 status 0 => nothing
 status 1 => nothing
 status 2 => nothing
@@ -101,7 +111,7 @@ status 5 => standard output can't be written, so the text is cut; free the disk 
 status 6 => there is not enough memory for this input; split it or give more memory
 status 7 => nothing
 unread text => a word isn't text in UTF-8
-unread memory => nothing";
+unread memory => nothing"#;
 
 /// How a program ends whose words can't be had, as a row tells it.
 fn unread(lacks_memory: bool) -> &'static str {
@@ -112,14 +122,32 @@ fn unread(lacks_memory: bool) -> &'static str {
     }
 }
 
+/// The first line of a text.
+fn first_line(text: &'static str) -> &'static str {
+    match text.split_once('\n') {
+        Some((line, _)) => line,
+        None => text,
+    }
+}
+
 /// What is said of a row's words or status.
-fn said(alloc: Global, given: &str) -> Result<&'static str, AllocError> {
+fn said(alloc: Global, given: &str) -> Result<String, AllocError> {
     let (verb, rest) = given.split_once(' ').unwrap_or((given, ""));
     match verb {
-        "tkn" => Ok(complaint(words(alloc, rest)?.as_slice())),
-        "status" => Ok(message(rest.parse::<u8>().unwrap_or(u8::MAX)).unwrap_or("nothing")),
-        "unread" => Ok(unread(rest == "memory")),
-        _ => Ok("no row"),
+        "tkn" => {
+            let words = words(alloc, rest)?;
+            format!(in alloc; "{}", complaint(words.as_slice()))
+        }
+        "help" => {
+            let text = help(words(alloc, rest)?.as_slice());
+            String::from_str(alloc, first_line(text.unwrap_or("nothing")))
+        }
+        "status" => String::from_str(
+            alloc,
+            message(rest.parse::<u8>().unwrap_or(u8::MAX)).unwrap_or("nothing"),
+        ),
+        "unread" => String::from_str(alloc, unread(rest == "memory")),
+        _ => String::from_str(alloc, "no row"),
     }
 }
 
@@ -127,7 +155,7 @@ fn said(alloc: Global, given: &str) -> Result<&'static str, AllocError> {
 fn words_and_statuses_have_their_sentences(rt: HostRuntime) -> Result<(), Fail> {
     for row in WORDS.split('\n') {
         let (given, wanted) = row.split_once(" => ").unwrap_or((row, "no answer"));
-        assert_eq!(rt; said(rt.alloc(), given)?, wanted, "of {given}");
+        assert_eq!(rt; said(rt.alloc(), given)?.as_str(), wanted, "of {given}");
     }
     assert!(rt; USAGE.starts_with("usage: tkn check < INPUT.json, "));
     Ok(())

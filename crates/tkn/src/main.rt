@@ -1,41 +1,36 @@
-//! The program `tkn`: `main` gives the words, standard input, standard output and a bench over the system's clock, folders and
+//! The program `tkn`: `main` gives the words, standard input, standard output and a bench over the machine's clocks, folders and
 //! programs to `tkn` of `tk_commands`, whose clauses say what it does with them, and says on standard error what is wrong where
-//! a status tells no more.
+//! a status tells no more. Before `run` it takes the folder below which the runs' files stand, or ends with 73, with nothing
+//! read and nothing started; behind it it tells of each TaskRun that failed and removes what nobody needs.
 //!
-//! `main.rt` has the bench over the system's clock, folders and programs; `remembering.rt` keeps what was read and the
-//! line that was printed, of which `main` says more on standard error. The stored run is `examples/runs.json` by real
-//! programs.
+//! `hosts.rt` has the bench, `remembering.rt` keeps what was read and the line that was printed, of which `saying.rt` says more
+//! on standard error. The stored run is `examples/runs.json` by real programs.
 #![tactic(auto)]
 
-ghost use Rattle.std.specs.Prelude.{◌≡◌, ◌<◌, ◌⊎◌, IfOk};
-ghost use Rattle.tk_run.specs.Begun.{IsNewBench, IsNewController, IsNewNode};
+ghost use Rattle.std.specs.Prelude.{◌≡◌, ◌<◌, ◌⊎◌, []};
 
+mod hosts;
 mod remembering;
+mod saying;
 
+use hosts::{bench, is_set_to, real_host, watched};
 use remembering::{Heard, Remembering};
+use saying::{Said, advice_of, complaint_of, say};
 use std::alloc::{AllocError, Global};
 use std::process::ExitCode;
 use std::sync::Wait;
 use std::thread::Threads;
 use std::{env, io};
-use tk_advice::{USAGE, advice, complaint, message, unread_words};
-use tk_commands::{Ended, tkn};
-use tk_edge::{Fresh, Host};
-use tk_rounds::{Bench, Controller, Node};
-use tk_system::{ReadSource, RealHost, SystemClock, WriteSink};
-use tk_types::{List, Text};
+use tk_advice::{complaint, help, message, of_all, unread_words};
+use tk_commands::{Ended, RunOptions, run_words, tkn};
+use tk_edge::Host;
+use tk_failures::{failures, is_admitted, spent_pods};
+use tk_journal::Journal;
+use tk_system::{ReadSource, Root, RootError, Tally, WriteSink, claim};
+use tk_types::{List, Text, TryCopy};
 
-/// What standard error says beside a status.
-#[derive(Drop)]
-enum Said {
-    Nothing,
-    /// How the commands are called, behind what is wrong with the words.
-    Usage(&'static str, &'static str),
-    /// What is wrong with the input, and what to do.
-    Advice(String),
-    /// What is admitted and can't start.
-    Warnings(String),
-}
+/// The folder below which runs stand where no word says it. What stands in a folder that a word names stays there.
+const DEFAULT_ROOT: &str = "/tmp/tkn";
 
 /// The words after the program's name.
 fn words(rt: &HostRuntime, alloc: Global) -> io::Result<List<Text>> {
@@ -47,102 +42,125 @@ fn words(rt: &HostRuntime, alloc: Global) -> io::Result<List<Text>> {
 }
 
 /// How a program ends whose words can't be had.
-fn without_words(error: io::Error) -> (u8, Said)
+fn without_words(alloc: Global, error: io::Error) -> (u8, Said)
     ensures { (result.0 ≡ 2) ⊎ (result.0 ≡ 6) }
 {
     match unread_words(matches!(error.kind(), io::ErrorKind::OutOfMemory)) {
-        (status, Some(complaint)) => (status, Said::Usage(complaint, USAGE)),
+        (status, Some(rule)) => (status, complaint_of(alloc, of_all(rule))),
         (status, None) => (status, Said::Nothing),
     }
 }
 
-/// The folders in which programs are looked for.
-fn path_of(rt: &HostRuntime, alloc: Global) -> Result<String, AllocError> {
-    match env::var(rt, "PATH") {
-        Ok(path) => Ok(path),
-        Err(_) => String::from_str(alloc, "/usr/local/bin:/usr/bin:/bin"),
+/// Where the runs of a call stand, and what its words say.
+#[derive(Drop)]
+struct Place {
+    root: Root,
+    options: RunOptions,
+}
+
+/// Why there is no place: for want of memory, or since the root can't be had.
+enum NoPlace {
+    Memory,
+    Root(Text, RootError),
+}
+
+impl From<AllocError> for NoPlace {
+    fn from(_error: AllocError) -> Self {
+        NoPlace::Memory
     }
 }
 
-/// A controller over the system's clock, whose gate keeps its cache fresh.
-fn controller(rt: &HostRuntime, alloc: Global) -> Controller<SystemClock<&HostRuntime>, Fresh>
-    ensures { IsNewController result }
-{
-    Controller::new(alloc, SystemClock::new(rt), Fresh::new())
-}
-
-/// A node over the system's clock, its folders and its programs, whose gate keeps its cache fresh.
-fn node<'a>(
-    rt: &'a HostRuntime,
-    alloc: Global,
-    path: &str,
-) -> Result<Node<SystemClock<&'a HostRuntime>, RealHost<'a, HostRuntime>, Fresh>, AllocError>
-    ensures { IfOk result (IsNewNode (⟦<RealHost<'a, HostRuntime> as Host>⟧.told)) }
-{
-    let host = RealHost::new(rt, alloc, path)?;
-    Ok(Node::new(alloc, SystemClock::new(rt), host, Fresh::new()))
-}
-
-/// Two controllers and two nodes.
-fn bench<'a>(
-    rt: &'a HostRuntime,
-    alloc: Global,
-) -> Result<Bench<SystemClock<&'a HostRuntime>, RealHost<'a, HostRuntime>, Fresh>, AllocError>
-    ensures { IfOk result (IsNewBench (⟦<RealHost<'a, HostRuntime> as Host>⟧.told)) }
-{
-    let path = path_of(rt, alloc)?;
-    let mut controllers = Vec::new(alloc);
-    controllers.push(controller(rt, alloc))?;
-    controllers.push(controller(rt, alloc))?;
-    let mut kubelets = Vec::new(alloc);
-    kubelets.push(node(rt, alloc, path.as_str())?)?;
-    kubelets.push(node(rt, alloc, path.as_str())?)?;
-    Ok(Bench {
-        controllers,
-        kubelets,
-        user: SystemClock::new(rt),
-    })
-}
-
-/// What to say of an input at fault, by the line that was printed and by what was read.
-fn advice_of(alloc: Global, printed: &[u8], read: Option<&[u8]>) -> Said {
-    let (Ok(line), Some(read)) = (std::str::from_utf8(printed), read) else {
-        return Said::Nothing;
+/// Takes the root, where the words are those of `run`.
+fn place_of(rt: &HostRuntime, alloc: Global, words: &[Text]) -> Result<Option<Place>, NoPlace> {
+    let Some(options) = run_words(alloc, words)? else {
+        return Ok(None);
     };
-    match advice(alloc, line, read) {
-        Ok(Some(advice)) => Said::Advice(advice),
-        _ => Said::Nothing,
+    match claim(rt, alloc, options.root.as_str()) {
+        Ok(root) => Ok(Some(Place { root, options })),
+        Err(RootError::Memory) => Err(NoPlace::Memory),
+        Err(error) => {
+            let folder = options.root.copy(alloc)?;
+            Err(NoPlace::Root(folder, error))
+        }
     }
 }
 
-/// Carries out the words, and gives the status, and what else to say.
-fn run<T: Threads + Wait + Sync>(rt: &HostRuntime, threads: &T) -> (u8, Said)
+/// Tells of each TaskRun that failed, and of each ask of what isn't there.
+fn tell_of_runs(
+    rt: &HostRuntime,
+    alloc: Global,
+    place: &Place,
+    journal: &Journal,
+) -> Result<(), AllocError> {
+    let mut host = real_host(rt, alloc, None, 0)?;
+    let lines = failures(alloc, journal, &mut host)?;
+    for line in lines.as_slice() {
+        let line = line.as_str();
+        let _ = eprintln!(rt; "tkn: {line}");
+    }
+    for ask in place.options.asks.as_slice() {
+        let run = ask.run.as_str();
+        if !is_admitted(journal, run) {
+            let _ = eprintln!(rt; "tkn: nothing of the name {run:?} was there to be asked");
+        }
+    }
+    Ok(())
+}
+
+/// Removes the folders of pods that nobody needs, below the root that no word gave.
+fn remove_spent(
+    rt: &HostRuntime,
+    alloc: Global,
+    place: &Place,
+    journal: &Journal,
+) -> Result<(), AllocError> {
+    if place.options.root.as_str() != DEFAULT_ROOT || is_set_to(rt, "TKN_KEEP", "1") {
+        return Ok(());
+    }
+    for pod in spent_pods(alloc, journal)?.as_slice() {
+        place.root.remove_pod(rt, alloc, pod.as_str());
+    }
+    Ok(())
+}
+
+/// What is done behind a run's report, as far as there is memory.
+fn behind(rt: &HostRuntime, alloc: Global, place: &Place, journal: &Journal) {
+    if journal.len() > 0 {
+        let _ = tell_of_runs(rt, alloc, place, journal);
+        let _ = remove_spent(rt, alloc, place, journal);
+    }
+    place.root.remove_old(rt, alloc);
+}
+
+/// Carries out the words with nodes over these hosts, and gives the status, and what else to say.
+fn run_on<T: Threads + Wait + Sync, H: Host + Drop + Send>(
+    rt: &HostRuntime,
+    threads: &T,
+    words: &[Text],
+    place: Option<&Place>,
+    first: H,
+    second: H,
+) -> (u8, Said)
+    requires first { H.told first ≡ [] }
+    requires second { H.told second ≡ [] }
     ensures { result.0 < 8 }
 {
     let alloc = rt.alloc();
-    let words = match words(rt, alloc) {
-        Ok(words) => words,
-        Err(error) => return without_words(error),
-    };
-    let Ok(mut bench) = bench(rt, alloc) else {
+    let Ok(mut bench) = bench(rt, alloc, first, second) else {
         return (6, Said::Nothing);
     };
     let mut input = Heard::new(alloc, ReadSource::new(rt.reader()));
     let mut sink = Remembering::new(alloc, WriteSink::new(io::writer(rt)));
     let Ended {
         status,
-        journal: _journal,
+        journal,
         warnings,
-    } = tkn(
-        threads,
-        alloc,
-        words.as_slice(),
-        &mut input,
-        &mut sink,
-        &mut bench,
-    );
+    } = tkn(threads, alloc, words, &mut input, &mut sink, &mut bench);
+    if let Some(place) = place {
+        behind(rt, alloc, place, &journal);
+    }
     match status {
-        2 => (2, Said::Usage(complaint(words.as_slice()), USAGE)),
+        2 => (2, complaint_of(alloc, complaint(words))),
         3 => (3, advice_of(alloc, sink.front(), input.bytes())),
         status => match warnings {
             Some(warnings) => (status, Said::Warnings(warnings)),
@@ -151,19 +169,54 @@ fn run<T: Threads + Wait + Sync>(rt: &HostRuntime, threads: &T) -> (u8, Said)
     }
 }
 
-/// Writes what is said to standard error, as far as that takes it.
-fn say(rt: &HostRuntime, said: &Said) {
-    match said {
-        Said::Nothing => {}
-        Said::Usage(complaint, usage) => {
-            let _ = eprintln!(rt; "tkn: {complaint}; {usage}");
-        }
-        Said::Advice(advice) => {
-            let _ = eprintln!(rt; "tkn: {advice}");
-        }
-        Said::Warnings(warnings) => {
-            let _ = eprintln!(rt; "{warnings}");
-        }
+/// Carries out the words by hosts over the machine.
+fn run_here<T: Threads + Wait + Sync>(
+    rt: &HostRuntime,
+    threads: &T,
+    words: &[Text],
+    place: Option<&Place>,
+) -> (u8, Said)
+    ensures { result.0 < 8 }
+{
+    let alloc = rt.alloc();
+    let tally = Tally::new();
+    let root = match place {
+        Some(place) => Some(&place.root),
+        None => None,
+    };
+    match (real_host(rt, alloc, root, 0), real_host(rt, alloc, root, 1)) {
+        (Ok(first), Ok(second)) => run_on(
+            rt,
+            threads,
+            words,
+            place,
+            watched(rt, alloc, &tally, first),
+            watched(rt, alloc, &tally, second),
+        ),
+        _ => (6, Said::Nothing),
+    }
+}
+
+/// Carries out the words, and gives the status, and what else to say.
+fn run<T: Threads + Wait + Sync>(rt: &HostRuntime, threads: &T) -> (u8, Said)
+    ensures { (result.0 < 8) ⊎ (result.0 ≡ 73) }
+{
+    let alloc = rt.alloc();
+    let words = match words(rt, alloc) {
+        Ok(words) => words,
+        Err(error) => return without_words(alloc, error),
+    };
+    if let Some(text) = help(words.as_slice()) {
+        return match println!(rt; "{text}") {
+            Ok(()) => (0, Said::Nothing),
+            Err(_) => (5, Said::Nothing),
+        };
+    }
+    match place_of(rt, alloc, words.as_slice()) {
+        Ok(Some(place)) => run_here(rt, threads, words.as_slice(), Some(&place)),
+        Ok(None) => run_here(rt, threads, words.as_slice(), None),
+        Err(NoPlace::Memory) => (6, Said::Nothing),
+        Err(NoPlace::Root(folder, error)) => (73, Said::Root(folder, error)),
     }
 }
 
