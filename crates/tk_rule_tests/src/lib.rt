@@ -17,6 +17,8 @@ mod objects;
 #[cfg(test)]
 mod results;
 #[cfg(test)]
+mod shapes;
+#[cfg(test)]
 mod spaces;
 #[cfg(test)]
 mod steps;

@@ -87,7 +87,10 @@ alone $(params.x[*]) => no $(params.x[*])
 element <$(params.t)> => ["<1>"]
 element $(params.x[*]) => ["b","c"]
 value $(params.t) => "1"
-value $(params.x[*]) => ["b","c"]"#;
+value $(params.x[*]) => ["b","c"]
+value $(params.o[*]) => {"first":"2"}
+value $(params.o.first) => "2"
+value $(params.o.second) => no $(params.o.second)"#;
 
 /// What is told of a row's text.
 fn told(alloc: Global, line: &str) -> Result<String, ScanError> {
