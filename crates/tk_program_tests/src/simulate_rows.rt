@@ -25,6 +25,14 @@ simulate
   skipped d Parent Tasks were skipped
 
 simulate
+{@run, "spec": {"params": [{"name": "o", "value": {"a": "x"}}], "pipelineSpec": {"params": [{"name": "o", "type": "object", "properties": {"a": {}, "b": {}}, "default": {"b": "y"}}], "tasks": [
+    {"name": "a", "when": [{"input": "$(params.o.a)$(params.o.b)", "operator": "in", "values": ["xy"]}], "params": [{"name": "p", "value": {"k": "$(params.o.a)"}}], "taskSpec": {"params": [{"name": "p", "type": "object", "properties": {"k": {}}}], "steps": [{"command": ["echo", "$(params.p.k)"]}]}},
+    {"name": "b", @step, "when": [{"input": "$(params.o.b)", "operator": "in", "values": ["x"]}]}]}}}
+=> 0 pipelinerun r True Completed
+  taskrun r-a a 0 Succeeded attempts 1
+  skipped b When Expressions evaluated to false
+
+simulate
 {@run, "spec": {"pipelineSpec": {"tasks": [{"name": "a", @step, "matrix": {"params": [{"name": "p", "value": []}]}}]}}}
 => 0 pipelinerun r True Completed
   skipped a Matrix Parameters have an empty array

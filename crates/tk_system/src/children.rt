@@ -15,12 +15,13 @@ pub(crate) struct Step<P: OpenProcess> {
     pub(crate) behind: Option<u64>,
 }
 
-/// The command of an order: its own environment, and no standard stream.
+/// The command of an order: its own environment, and no standard stream but the one for errors, where it is heard.
 fn command_of(
     alloc: Global,
     path: &str,
     program: &str,
     order: &Order,
+    hears: bool,
 ) -> Result<Command, AllocError> {
     let mut command = Command::new(alloc, program)?;
     for word in order.argv.as_slice().iter().skip(1) {
@@ -34,7 +35,11 @@ fn command_of(
     command.current_dir(order.dir.as_str())?;
     command.stdin(Stdio::null());
     command.stdout(Stdio::null());
-    command.stderr(Stdio::null());
+    command.stderr(if hears {
+        Stdio::inherit()
+    } else {
+        Stdio::null()
+    });
     Ok(command)
 }
 
@@ -44,11 +49,12 @@ pub(crate) fn spawn_order<R: Processes>(
     alloc: Global,
     path: &str,
     order: &Order,
+    hears: bool,
 ) -> Result<Child<R::Started>, Trouble> {
     let Some(program) = order.argv.as_slice().first() else {
         return Err(Trouble::System(io::Error::from(ErrorKind::InvalidInput)));
     };
-    let mut command = command_of(alloc, path, program.as_str(), order)?;
+    let mut command = command_of(alloc, path, program.as_str(), order, hears)?;
     Ok(command.spawn(rt)?)
 }
 

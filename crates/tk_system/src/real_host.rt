@@ -30,6 +30,7 @@ pub struct RealHost<'a, R: Processes> {
     path: Text,
     aside: Option<Text>,
     moved: u64,
+    hears: bool,
     log: HostLog,
     steps: Vec<Step<R::Started>>,
     faults: u64,
@@ -43,6 +44,7 @@ impl<'a, R: Processes> Drop for RealHost<'a, R> {
             path: _,
             aside: _,
             moved: _,
+            hears: _,
             log: _,
             steps: _,
             faults: _,
@@ -66,6 +68,7 @@ impl<'a, R: Processes + Files + Eprint> RealHost<'a, R> {
             path: Text::from_str(alloc, path)?,
             aside: None,
             moved: 0,
+            hears: false,
             log: HostLog::new(alloc),
             steps: Vec::new(alloc),
             faults: 0,
@@ -173,6 +176,17 @@ impl<'a, R: Processes + Files + Eprint> RealHost<'a, R> {
         self.aside = Some(folder);
     }
 
+    /// From now on, what a child that `start` starts says on standard error goes where that of this program goes. Armed
+    /// children have no standard stream.
+    pub fn hear_children(&mut self)
+        ensures told { ⟦<RealHost<'a, R> as Host>⟧.told self.new ≡ ⟦<RealHost<'a, R> as Host>⟧.told self.old }
+        ensures killed { ⟦<RealHost<'a, R> as Host>⟧.killed self.new ≡ ⟦<RealHost<'a, R> as Host>⟧.killed self.old }
+        ensures watches { ⟦<RealHost<'a, R> as Host>⟧.watches self.new ≡ ⟦<RealHost<'a, R> as Host>⟧.watches self.old }
+        ensures faults { ⟦<RealHost<'a, R> as Host>⟧.faults self.new ≡ ⟦<RealHost<'a, R> as Host>⟧.faults self.old }
+    {
+        self.hears = true;
+    }
+
     /// Whether the child is armed. It takes no memory.
     pub fn is_armed(&self, child: u64) -> bool
         ensures { IsTrue result → Has (arming_of child (⟦<RealHost<'a, R> as Host>⟧.told self.now)) (λ _. Unit {0}) }
@@ -260,7 +274,7 @@ impl<'a, R: Processes + Files + Eprint> RealHost<'a, R> {
         let Some(step) = self.steps.get_mut(child as usize) else {
             return self.fail();
         };
-        match spawn_order(self.rt, self.alloc, self.path.as_str(), &order) {
+        match spawn_order(self.rt, self.alloc, self.path.as_str(), &order, false) {
             Ok(process) => {
                 step.running = Some(process);
                 self.log.started(child, order);
@@ -493,7 +507,7 @@ impl<'a, R: Processes + Files + Eprint> Host for RealHost<'a, R> {
         let told = order.copy(self.alloc)?;
         self.log.make_room()?;
         self.steps.reserve(1)?;
-        match spawn_order(self.rt, self.alloc, self.path.as_str(), order) {
+        match spawn_order(self.rt, self.alloc, self.path.as_str(), order, self.hears) {
             Ok(process) => {
                 let child = self.log.start(told);
                 push_within(
