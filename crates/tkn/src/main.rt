@@ -72,6 +72,13 @@ impl From<AllocError> for NoPlace {
 
 /// Takes the root, where the words are those of `run`.
 fn place_of(rt: &HostRuntime, alloc: Global, words: &[Text]) -> Result<Option<Place>, NoPlace> {
+    let is_run = match words.first() {
+        Some(word) => word.as_str() == "run",
+        None => false,
+    };
+    if !is_run {
+        return Ok(None);
+    }
     let Some(options) = run_words(alloc, words)? else {
         return Ok(None);
     };
