@@ -1,4 +1,5 @@
 //! The calls of `tk_verdict` that no command makes, over the facts that an input gives.
+ghost use Rattle.std.specs.Option.{ForSome};
 ghost use Rattle.tk_verdict.specs.WellFormed.{IsWellFormed};
 
 use crate::rows::whole;
@@ -104,16 +105,23 @@ fn told(alloc: Global, facts: &Facts) -> Result<String, AllocError>
     Ok(text)
 }
 
+/// What is decided of facts, if there are any.
+fn told_of(alloc: Global, facts: &Option<Facts>) -> Result<String, AllocError>
+    requires { ForSome facts.now IsWellFormed }
+{
+    match facts {
+        Some(facts) => told(alloc, facts),
+        None => String::from_str(alloc, "no facts"),
+    }
+}
+
 /// What is decided of the run with these children.
 fn decided(alloc: Global, children: &str) -> Result<String, AllocError> {
     let text = format!(in alloc; "{RUN}{children}]}}}}]}}")?;
     let input = whole(alloc, text.as_str())?;
     let document = Document::new(alloc, input.as_slice())?;
     match admit(alloc, &document, KindSet::WithOutcomes, 0, "/work") {
-        Ok(admitted) => match &admitted.outcomes {
-            Some(facts) => told(alloc, facts),
-            None => String::from_str(alloc, "no facts"),
-        },
+        Ok(admitted) => told_of(alloc, &admitted.outcomes),
         Err(_) => String::from_str(alloc, "refused"),
     }
 }

@@ -163,7 +163,7 @@ run | members 1 | gate single | tell fronts
   taskrun r-b b 0 Succeeded attempts 1
 fronts 1 0 0
 
-run | members 1 | gate single | tell fronts
+run --root /work | members 1 | gate single | tell fronts
 @build
 => 0 pipelinerun build-00001 True Succeeded
   taskrun build-00001-fetch fetch 0 Succeeded attempts 1
@@ -188,7 +188,7 @@ run | members 1 | gate lists
   taskrun r-a a 0 Succeeded attempts 1
   taskrun r-b b 0 Succeeded attempts 1
 
-run | members 1 | gate lists
+run --root /work | members 1 | gate lists
 @build
 => 0 pipelinerun build-00001 True Succeeded
   taskrun build-00001-fetch fetch 0 Succeeded attempts 1
@@ -201,7 +201,7 @@ run | members 1 | gate lists
   result logs ["ok-linux","ok-mac"]
 
 # One controller and one node, and 64 of each, whose gates keep caches fresh, or pause at first.
-run | members 1 | pauses 0
+run --root /work | members 1 | pauses 0
 @build
 => 0 pipelinerun build-00001 True Succeeded
   taskrun build-00001-fetch fetch 0 Succeeded attempts 1
@@ -213,7 +213,7 @@ run | members 1 | pauses 0
   result image "img-abc123"
   result logs ["ok-linux","ok-mac"]
 
-run | members 64 | pauses 0
+run --root /work | members 64 | pauses 0
 @build
 => 0 pipelinerun build-00001 True Succeeded
   taskrun build-00001-fetch fetch 0 Succeeded attempts 1
@@ -225,7 +225,7 @@ run | members 64 | pauses 0
   result image "img-abc123"
   result logs ["ok-linux","ok-mac"]
 
-run | members 1 | pauses 3
+run --root /work | members 1 | pauses 3
 @build
 => 0 pipelinerun build-00001 True Succeeded
   taskrun build-00001-fetch fetch 0 Succeeded attempts 1
@@ -237,7 +237,7 @@ run | members 1 | pauses 3
   result image "img-abc123"
   result logs ["ok-linux","ok-mac"]
 
-run | members 64 | pauses 3
+run --root /work | members 64 | pauses 3
 @build
 => 0 pipelinerun build-00001 True Succeeded
   taskrun build-00001-fetch fetch 0 Succeeded attempts 1

@@ -269,7 +269,7 @@ simulate
 {@list, "items": [
     {"apiVersion": "tekton.dev/v1", "kind": "TaskRun", "metadata": {"name": "q"}, "spec": {"taskSpec": {"results": [{"name": "s"}, {"name": "l", "type": "array"}], "steps": [{"command": ["true"]}]}}},
     {@scenario, "spec": {"outcomes": [{"taskRun": "q", "attempt": 1, "exits": [0], "results": {"s": "a", "l": "[1]"}}]}}]}
-=> 1 taskrun q False Failed - attempts 1
+=> 1 taskrun q False Failed attempts 1
 
 # An attempt whose timeout has passed ends at its moment, and not before.
 simulate
