@@ -9,6 +9,7 @@
 
 mod children;
 mod clock;
+mod file_disk;
 mod files;
 mod progress;
 mod real_host;
@@ -16,6 +17,7 @@ mod root;
 mod stream;
 
 pub use clock::SystemClock;
+pub use file_disk::FileDisk;
 pub use progress::{Progress, Tally};
 pub use real_host::RealHost;
 pub use root::{Root, RootError, claim};

@@ -1,0 +1,7 @@
+mod Appends
+mod Blocks
+mod Gates
+mod Histories
+mod Journals
+mod Moments
+mod OneJournal
