@@ -9,6 +9,7 @@ use Rattle.tk_edge.specs.Files.{is_slash, is_under}
 use Rattle.tk_space.specs.Apart.{IsName, LiesUnder}
 use Rattle.tk_space.specs.Space.{below, pod_folder, claims_folder, spaces_folder}
 use Rattle.tk_space.proofs.Apart.{same_pod, lies_deeper}
+use Rattle.tk_journal.specs.declared.object.Plan.{Plan}
 use Rattle.tk_steps.specs.May.{IsOwnFolder}
 
 -- a path that is under a folder lies there
@@ -30,10 +31,10 @@ pub lies_through : (folder inner path : List ℕ) → LiesUnder folder inner →
 lies_through folder inner path (x, e) (y, f) = (below x y, f ∙ (ap (λ (p : List ℕ). below p y) e ∙ simp append_assoc))
 
 -- what is cleared for a pod is its folder or lies in it
-pub own_folder : (root name folder path : List ℕ) → IsOwnFolder root name folder → LiesUnder folder path → LiesUnder (pod_folder root name) path
+pub own_folder : (root name folder path : List ℕ) → {plan : Plan} → IsOwnFolder root name plan folder → LiesUnder folder path → LiesUnder (pod_folder root name) path
 own_folder root name folder path (inl is) lies = subst (λ (f : List ℕ). LiesUnder f path) is lies
 own_folder root name folder path (inr space) lies =
-    let inside : LiesUnder (spaces_folder root name) folder = (space.space, space.at) in
+    let inside : LiesUnder (spaces_folder root name) folder = (space.lies.space, space.lies.at) in
     lies_deeper (pod_folder root name) (codes "ws") path (lies_through (spaces_folder root name) folder path inside lies)
 
 claims_is_name : IsName (codes "claims")
@@ -41,7 +42,7 @@ claims_is_name = search rules
 
 -- a path of a pod or of a claim isn't under what is cleared for another pod
 pub not_cleared : (root name other folder path : List ℕ) → IsName name → IsName other → other ≢ name → other ≢ codes "claims" → LiesUnder (pod_folder root name) path ⊎ LiesUnder (claims_folder root) path
-    → IsOwnFolder root other folder → is_under folder path ≡ false
+    → {plan : Plan} → IsOwnFolder root other plan folder → is_under folder path ≡ false
 not_cleared root name other folder path plain far differ no_claims lies own = false_from_ne_true (is_under folder path) (λ is. clash lies (own_folder root other folder path own (under_lies folder path is)))
   where
     clash : LiesUnder (pod_folder root name) path ⊎ LiesUnder (claims_folder root) path → LiesUnder (pod_folder root other) path → ⊥

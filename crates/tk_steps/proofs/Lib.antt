@@ -1,3 +1,4 @@
+pub mod Behind
 pub mod Adds
 pub mod Chain
 pub mod Gets

@@ -52,7 +52,7 @@ module _ (root : List ℕ) where
   put_moves pod path bytes told now (Ok done) own none holds is = moves_file pod (events.Put path bytes true) told now refl (own, none_armed told pod holds none) holds is
   put_moves pod path bytes told now (Err miss) own none holds is = moves_miss pod (events.Put path bytes false) told now miss refl (own, none_armed told pod holds none) holds is
 
-  pub clear_moves : (pod : HeldPod) (folder : List ℕ) (told now : List Event) (result : Result (Unit {0}) Miss) → IsOwnFolder root pod.name folder → pod.steps.items ≡ [] → HoldsPod told pod → TellsCall (events.Cleared folder true) (events.Cleared folder false) told now result → Moves root pod pod told now
+  pub clear_moves : (pod : HeldPod) (folder : List ℕ) (told now : List Event) (result : Result (Unit {0}) Miss) → IsOwnFolder root pod.name pod.plan folder → pod.steps.items ≡ [] → HoldsPod told pod → TellsCall (events.Cleared folder true) (events.Cleared folder false) told now result → Moves root pod pod told now
   clear_moves pod folder told now (Ok done) own none holds is = moves_file pod (events.Cleared folder true) told now refl (own, none_armed told pod holds none) holds is
   clear_moves pod folder told now (Err miss) own none holds is = moves_miss pod (events.Cleared folder false) told now miss refl (own, none_armed told pod holds none) holds is
 

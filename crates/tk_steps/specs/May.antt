@@ -9,6 +9,7 @@ use Rattle.tk_edge.specs.declared.event.Arming.{Arming}
 use Rattle.tk_edge.specs.declared.order.Order.{Order}
 use Rattle.tk_edge.specs.History.{Has, IsNew, arming_of, StillWaits, StillRuns, MayStart}
 use Rattle.tk_journal.specs.declared.object.Plan.{Plan}
+use Rattle.tk_space.specs.Apart.{IsWithin}
 use Rattle.tk_space.specs.Space.{below, pod_folder, spaces_folder}
 use Rattle.tk_steps.specs.Ready.{space_file}
 use Rattle.tk_steps.specs.Paths.{start_path, post_path, wait_path, script_path, result_path}
@@ -31,18 +32,26 @@ pub record IsSpaceFile (root name : List ℕ) (plan : Plan) (path bytes : List �
   pub at : path ≡ space_file root name folder
   pub empty : bytes ≡ []
 
--- the folder of one of the pod's emptyDirs
-pub record IsSpaceFolder (root name folder : List ℕ) : Type 0 where
+-- the folder below that of the pod's emptyDirs which another folder is, or in which it lies
+pub record IsSpaceOf (root name own folder : List ℕ) : Type 0 where
   pub space : List ℕ
   pub at : folder ≡ below (spaces_folder root name) space
+  pub within : IsWithin folder own
+
+-- the folder of one of the plan's emptyDirs
+pub record IsSpaceFolder (root name : List ℕ) (plan : Plan) (folder : List ℕ) : Type 0 where
+  pub place : ℕ
+  pub own : List ℕ
+  pub planned : slice_get plan.folders place ≡ Some own
+  pub lies : IsSpaceOf root name own folder
 
 -- what is put in a pod's folder before its steps are armed
 abbrev pub IsOwnPut : List ℕ → List ℕ → Plan → List ℕ → List ℕ → Type 0
 IsOwnPut root name plan path bytes = ((path ≡ start_path root name) × (bytes ≡ [])) ⊎ IsScript root name plan path bytes ⊎ IsSpaceFile root name plan path bytes
 
 -- what is cleared before its steps are armed
-abbrev pub IsOwnFolder : List ℕ → List ℕ → List ℕ → Type 0
-IsOwnFolder root name folder = (folder ≡ pod_folder root name) ⊎ IsSpaceFolder root name folder
+abbrev pub IsOwnFolder : List ℕ → List ℕ → Plan → List ℕ → Type 0
+IsOwnFolder root name plan folder = (folder ≡ pod_folder root name) ⊎ IsSpaceFolder root name plan folder
 
 -- the entry is armed as the plan's step of this number
 pub record IsOwnArming (root name : List ℕ) (plan : Plan) (arming : Arming) : Type 0 where
@@ -73,7 +82,7 @@ pub record StartsOwn (name : List ℕ) (child : ℕ) (order : Order) (told : Lis
 -- armed once and then starts, ends or is refused, and its results are fetched.
 abbrev pub May : List ℕ → List ℕ → Plan → Event → List Event → Type 0
 May root name plan (events.Put path bytes answered) older = IsOwnPut root name plan path bytes × IsUnarmed name older
-May root name plan (events.Cleared folder answered) older = IsOwnFolder root name folder × IsUnarmed name older
+May root name plan (events.Cleared folder answered) older = IsOwnFolder root name plan folder × IsUnarmed name older
 May root name plan (events.Fetched path bytes) older = (spec : ResultSpec) × Contains plan.results spec × (path ≡ result_path root name spec.name)
 May root name plan (events.Armed child arming) older = IsNew child older × IsOwnArming root name plan arming × IsStepUnarmed name arming.order.step older
 May root name plan (events.Started child order) older = StartsOwn name child order older

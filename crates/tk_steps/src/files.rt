@@ -41,7 +41,7 @@ pub(crate) fn clear_own<H: Host>(
     pod: &HeldPod,
     folder: &Text,
 ) -> Result<(), Miss>
-    requires own { IsOwnFolder root.now pod.now.name folder.now }
+    requires own { IsOwnFolder root.now pod.now.name pod.now.plan folder.now }
     requires unarmed { pod.now.steps.items ≡ [] }
     requires holds { HoldsPod (H.told host.old) pod.now }
     ensures cleared { OnOk result (H.told host.new ≡ Cleared folder.now true ∷ H.told host.old) }

@@ -1,10 +1,12 @@
 //! The folders of a pod's workspaces (Tekton, Workspaces, Using Workspaces in Tasks).
-ghost use Rattle.std.specs.Prelude.{◌≡◌, ◌<◌, ℕ, List, [], ◌∷◌, length, slice_get, Some, true, IfOk, OnOk};
+ghost use Rattle.std.specs.Prelude.{◌≡◌, ◌<◌, ℕ, List, [], ◌∷◌, ◌++◌, length, slice_get, Some, true, IfOk, OnOk};
 ghost use Rattle.std.specs.Option.{IfSome};
 ghost use Rattle.tk_edge.specs.declared.event.Event.TheVariants.{Put};
+ghost use Rattle.tk_space.specs.Apart.{IsWithin};
+ghost use Rattle.tk_space.specs.Space.{below};
 ghost use Rattle.tk_edge.specs.Causes.{Counts};
 ghost use Rattle.tk_steps.specs.Held.{HoldsPod};
-ghost use Rattle.tk_steps.specs.May.{IsSpaceFolder};
+ghost use Rattle.tk_steps.specs.May.{IsSpaceOf};
 ghost use Rattle.tk_steps.specs.Moves.{Moves, count_actions};
 ghost use Rattle.tk_steps.specs.Ready.{AreSpacesMade, space_file as file_of_space};
 ghost use Rattle.tk_steps.specs.Scripts.{PutsSpace};
@@ -16,9 +18,38 @@ use std::alloc::{AllocError, Global};
 use tk_edge::{Host, Miss, is_under};
 use tk_types::Text;
 
+// What stands behind a folder's text.
+fn behind_text<'a>(path: &'a str, folder: &str) -> Option<&'a str>
+    ensures { IfSome result (λ rest. path.now ≡ folder.now ++ rest.now) }
+{
+    path.strip_prefix(folder)
+}
+
+// What stands behind a slash.
+fn behind_slash(text: &str) -> Option<&str>
+    ensures { IfSome result (λ rest. text.now ≡ 47 ∷ rest.now) }
+{
+    text.strip_prefix('/')
+}
+
 // What stands behind a folder and a slash.
-fn behind<'a>(path: &'a str, folder: &str) -> Option<&'a str> {
-    path.strip_prefix(folder)?.strip_prefix('/')
+fn behind<'a>(path: &'a str, folder: &str) -> Option<&'a str>
+    ensures { IfSome result (λ rest. path.now ≡ below folder.now rest.now) }
+{
+    let Some(text) = behind_text(path, folder) else {
+        return None;
+    };
+    behind_slash(text)
+}
+
+// The first name of a path.
+fn first_name(path: &str) -> &str
+    ensures { IsWithin result.now path.now }
+{
+    match path.split_once('/') {
+        Some((name, _)) => name,
+        None => path,
+    }
 }
 
 /// The folder of the emptyDir in which a folder lies, if it lies in one of the pod's.
@@ -28,17 +59,13 @@ fn own_space(
     pod: &Text,
     folder: &Text,
 ) -> Result<Option<Text>, AllocError>
-    ensures { IfOk result (λ space. IfSome space (IsSpaceFolder root.now pod.now)) }
+    ensures { IfOk result (λ space. IfSome space (IsSpaceOf root.now pod.now folder.now)) }
 {
     let mut path = spaces_path(alloc, root, pod)?;
     let Some(rest) = behind(folder.as_str(), path.as_str()) else {
         return Ok(None);
     };
-    let name = match rest.split_once('/') {
-        Some((name, _)) => name,
-        None => rest,
-    };
-    go_below(&mut path, name)?;
+    go_below(&mut path, first_name(rest))?;
     Ok(Some(Text::from_string(path)))
 }
 

@@ -31,6 +31,8 @@ pub struct RealHost<'a, R: Processes> {
     aside: Option<Text>,
     moved: u64,
     hears: bool,
+    // what an order is called that names no pod
+    about: Option<Text>,
     log: HostLog,
     steps: Vec<Step<R::Started>>,
     faults: u64,
@@ -45,6 +47,7 @@ impl<'a, R: Processes> Drop for RealHost<'a, R> {
             aside: _,
             moved: _,
             hears: _,
+            about: _,
             log: _,
             steps: _,
             faults: _,
@@ -69,6 +72,7 @@ impl<'a, R: Processes + Files + Eprint> RealHost<'a, R> {
             aside: None,
             moved: 0,
             hears: false,
+            about: None,
             log: HostLog::new(alloc),
             steps: Vec::new(alloc),
             faults: 0,
@@ -187,6 +191,17 @@ impl<'a, R: Processes + Files + Eprint> RealHost<'a, R> {
         self.hears = true;
     }
 
+    /// From now on, a program that can't be started is told as that of this step, where its order names no pod: it is what an
+    /// entrypoint that is a process of its own knows of it.
+    pub fn speak_of(&mut self, step: Text)
+        ensures told { ⟦<RealHost<'a, R> as Host>⟧.told self.new ≡ ⟦<RealHost<'a, R> as Host>⟧.told self.old }
+        ensures killed { ⟦<RealHost<'a, R> as Host>⟧.killed self.new ≡ ⟦<RealHost<'a, R> as Host>⟧.killed self.old }
+        ensures watches { ⟦<RealHost<'a, R> as Host>⟧.watches self.new ≡ ⟦<RealHost<'a, R> as Host>⟧.watches self.old }
+        ensures faults { ⟦<RealHost<'a, R> as Host>⟧.faults self.new ≡ ⟦<RealHost<'a, R> as Host>⟧.faults self.old }
+    {
+        self.about = Some(step);
+    }
+
     /// Whether the child is armed. It takes no memory.
     pub fn is_armed(&self, child: u64) -> bool
         ensures { IsTrue result → Has (arming_of child (⟦<RealHost<'a, R> as Host>⟧.told self.now)) (λ _. Unit {0}) }
@@ -281,7 +296,7 @@ impl<'a, R: Processes + Files + Eprint> RealHost<'a, R> {
                 Ok(Watch::Started)
             }
             Err(trouble) => {
-                let miss = tell_of_start(self.rt, &order, &trouble);
+                let miss = tell_of_start(self.rt, &self.about, &order, &trouble);
                 self.miss(miss)
             }
         }
@@ -400,7 +415,12 @@ fn tell_of_file<R: Eprint>(rt: &R, tried: &str, path: &str, trouble: &Trouble) -
 }
 
 // Says why an order couldn't be started.
-fn tell_of_start<R: Eprint + Files>(rt: &R, order: &Order, trouble: &Trouble) -> Miss {
+fn tell_of_start<R: Eprint + Files>(
+    rt: &R,
+    about: &Option<Text>,
+    order: &Order,
+    trouble: &Trouble,
+) -> Miss {
     if let Trouble::Memory = trouble {
         return Miss::Memory;
     }
@@ -411,7 +431,13 @@ fn tell_of_start<R: Eprint + Files>(rt: &R, order: &Order, trouble: &Trouble) ->
         None => "",
     };
     let advice = advice_on_start(rt, order, trouble);
-    let _ = eprintln!(rt; "tkn: {pod}: step {step} can't start {program:?}: {trouble}; {advice}");
+    let _ = match about {
+        Some(about) if pod.is_empty() => {
+            let about = about.as_str();
+            eprintln!(rt; "tkn: {about} can't start {program:?}: {trouble}; {advice}")
+        }
+        _ => eprintln!(rt; "tkn: {pod}: step {step} can't start {program:?}: {trouble}; {advice}"),
+    };
     Miss::Failed
 }
 
@@ -521,7 +547,7 @@ impl<'a, R: Processes + Files + Eprint> Host for RealHost<'a, R> {
                 Ok(child)
             }
             Err(trouble) => {
-                let miss = tell_of_start(self.rt, order, &trouble);
+                let miss = tell_of_start(self.rt, &self.about, order, &trouble);
                 self.miss(miss)
             }
         }

@@ -3,9 +3,10 @@ ghost use Rattle.std.specs.Prelude.{◌≡◌, [], IfOk};
 ghost use Rattle.tk_run.specs.Begun.{IsNewBench, IsNewController, IsNewNode};
 
 use std::alloc::{AllocError, Global};
-use std::env;
 use std::io::IsTerminal;
+use std::{env, process};
 use tk_edge::{Fresh, Host};
+use tk_process::{ProcessHost, Teller, Unexplained};
 use tk_rounds::{Bench, Controller, Node};
 use tk_system::{Progress, RealHost, Root, SystemClock, Tally};
 
@@ -95,6 +96,86 @@ pub(crate) fn real_host<'a>(
         }
     }
     Ok(host)
+}
+
+/// What takes the turns of entrypoints, by `TKN_ENTRYPOINT`.
+pub(crate) enum Entrypoints {
+    /// This process, where it is unset or empty.
+    Own,
+    /// Processes of the program at this path, a whole path.
+    Program(String),
+    /// It is no whole path.
+    Faulty,
+    NoMemory,
+}
+
+/// What the variable says.
+pub(crate) fn wanted_entrypoints(rt: &HostRuntime) -> Entrypoints {
+    match env::var(rt, "TKN_ENTRYPOINT") {
+        Ok(path) => {
+            if path.is_empty() {
+                Entrypoints::Own
+            } else if path.as_str().starts_with('/') {
+                Entrypoints::Program(path)
+            } else {
+                Entrypoints::Faulty
+            }
+        }
+        Err(env::VarError::NotPresent) => Entrypoints::Own,
+        Err(env::VarError::OutOfMemory) => Entrypoints::NoMemory,
+        Err(_) => Entrypoints::Faulty,
+    }
+}
+
+/// Standard error, which is told of each step whose files nothing explains.
+#[derive(Drop)]
+pub(crate) struct Stderr<'a> {
+    rt: &'a HostRuntime,
+}
+
+impl<'a> Teller for Stderr<'a> {
+    fn tell(&self, pod: &str, step: u32, what: Unexplained) {
+        let what = match what {
+            Unexplained::Marker => {
+                "a file that lets it begin, or refuses it, was left by another one than the step before: a step writes below `run`"
+            }
+            Unexplained::Gone => "its entrypoint is gone and left no exit: something ended it",
+            Unexplained::Exit => "the files of its exit were changed: a step writes below `run`",
+        };
+        let _ = eprintln!(self.rt; "tkn: {pod}: step {step}: {what}");
+    }
+}
+
+/// The host of `process_host`.
+pub(crate) type Processes<'a> = ProcessHost<
+    RealHost<'a, HostRuntime>,
+    SystemClock<&'a HostRuntime>,
+    Stderr<'a>,
+>;
+
+/// A host whose entrypoints are processes of the program at a path, over a real host whose children are heard.
+pub(crate) fn process_host<'a>(
+    rt: &'a HostRuntime,
+    alloc: Global,
+    root: Option<&Root>,
+    number: u32,
+    program: &str,
+) -> Result<Processes<'a>, AllocError>
+    ensures { IfOk result (λ host. ⟦<ProcessHost<RealHost<'a, HostRuntime>, SystemClock<&'a HostRuntime>, Stderr<'a>> as Host>⟧.told host ≡ []) }
+{
+    let path = path_of(rt, alloc)?;
+    let id = process::id(rt.process());
+    let mut host = real_host(rt, alloc, root, number)?;
+    host.hear_children();
+    ProcessHost::new(
+        alloc,
+        path.as_str(),
+        program,
+        id,
+        host,
+        SystemClock::new(rt),
+        Stderr { rt },
+    )
 }
 
 /// The same host, whose steps are told where that is wanted.

@@ -7,15 +7,15 @@
 //! on standard error. The stored run is `examples/runs.json` by real programs.
 #![tactic(auto)]
 
-ghost use Rattle.std.specs.Prelude.{◌≡◌, ◌<◌, ◌⊎◌, []};
+ghost use Rattle.std.specs.Prelude.{◌≡◌, ◌<◌, ◌⊎◌, [], IfOk};
 
 mod hosts;
 mod remembering;
 mod saying;
 
-use hosts::{bench, is_set_to, real_host, watched};
+use hosts::{Entrypoints, bench, is_set_to, process_host, real_host, wanted_entrypoints, watched};
 use remembering::{Heard, Remembering};
-use saying::{Said, advice_of, complaint_of, say};
+use saying::{Said, advice_of, complaint_of, remarks_of, say};
 use std::alloc::{AllocError, Global};
 use std::process::ExitCode;
 use std::sync::Wait;
@@ -171,36 +171,74 @@ fn run_on<T: Threads + Wait + Sync, H: Host + Drop + Send>(
         3 => (3, advice_of(alloc, sink.front(), input.bytes())),
         status => match warnings {
             Some(warnings) => (status, Said::Warnings(warnings)),
-            None => (status, Said::Nothing),
+            None => (
+                status,
+                remarks_of(alloc, words, sink.front(), input.bytes()),
+            ),
         },
     }
 }
 
-/// Carries out the words by hosts over the machine.
-fn run_here<T: Threads + Wait + Sync>(
+/// Carries out the words by two hosts, where there was memory for them.
+fn run_by<T: Threads + Wait + Sync, H: Host + Drop + Send>(
     rt: &HostRuntime,
     threads: &T,
     words: &[Text],
     place: Option<&Place>,
+    first: Result<H, AllocError>,
+    second: Result<H, AllocError>,
 ) -> (u8, Said)
+    requires first { IfOk first (λ host. H.told host ≡ []) }
+    requires second { IfOk second (λ host. H.told host ≡ []) }
     ensures { result.0 < 8 }
 {
-    let alloc = rt.alloc();
     let tally = Tally::new();
-    let root = match place {
-        Some(place) => Some(&place.root),
-        None => None,
-    };
-    match (real_host(rt, alloc, root, 0), real_host(rt, alloc, root, 1)) {
+    match (first, second) {
         (Ok(first), Ok(second)) => run_on(
             rt,
             threads,
             words,
             place,
-            watched(rt, alloc, &tally, first),
-            watched(rt, alloc, &tally, second),
+            watched(rt, rt.alloc(), &tally, first),
+            watched(rt, rt.alloc(), &tally, second),
         ),
         _ => (6, Said::Nothing),
+    }
+}
+
+/// Carries out the words of `run` by hosts over the machine, as `TKN_ENTRYPOINT` says.
+fn run_here<T: Threads + Wait + Sync>(
+    rt: &HostRuntime,
+    threads: &T,
+    words: &[Text],
+    place: &Place,
+) -> (u8, Said)
+    ensures { result.0 < 8 }
+{
+    let alloc = rt.alloc();
+    let root = Some(&place.root);
+    match wanted_entrypoints(rt) {
+        Entrypoints::Own => run_by(
+            rt,
+            threads,
+            words,
+            Some(place),
+            real_host(rt, alloc, root, 0),
+            real_host(rt, alloc, root, 1),
+        ),
+        Entrypoints::Program(program) => run_by(
+            rt,
+            threads,
+            words,
+            Some(place),
+            process_host(rt, alloc, root, 0, program.as_str()),
+            process_host(rt, alloc, root, 1, program.as_str()),
+        ),
+        Entrypoints::Faulty => (
+            2,
+            complaint_of(alloc, of_all("TKN_ENTRYPOINT isn't a whole path")),
+        ),
+        Entrypoints::NoMemory => (6, Said::Nothing),
     }
 }
 
@@ -220,8 +258,15 @@ fn run<T: Threads + Wait + Sync>(rt: &HostRuntime, threads: &T) -> (u8, Said)
         };
     }
     match place_of(rt, alloc, words.as_slice()) {
-        Ok(Some(place)) => run_here(rt, threads, words.as_slice(), Some(&place)),
-        Ok(None) => run_here(rt, threads, words.as_slice(), None),
+        Ok(Some(place)) => run_here(rt, threads, words.as_slice(), &place),
+        Ok(None) => run_by(
+            rt,
+            threads,
+            words.as_slice(),
+            None,
+            real_host(rt, alloc, None, 0),
+            real_host(rt, alloc, None, 1),
+        ),
         Err(NoPlace::Memory) => (6, Said::Nothing),
         Err(NoPlace::Root(folder, error)) => (73, Said::Root(folder, error)),
     }

@@ -4,8 +4,8 @@ use std::alloc::Global;
 use tk_edge::{Failed, Miss, Sink, Source};
 use tk_types::LONGEST_INPUT;
 
-/// How many bytes are remembered at most: more than the line of a fault has.
-const LIMIT: usize = 65_536;
+/// How many bytes are remembered at most: more than the line of a fault has, and the report of some ten thousand TaskRuns.
+const LIMIT: usize = 1_048_576;
 
 /// A sink that hands on what it is given and remembers the front of it, as far as there is memory.
 #[derive(Drop)]

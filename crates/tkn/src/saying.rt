@@ -1,6 +1,6 @@
 //! What standard error says beside a status.
 use std::alloc::Global;
-use tk_advice::{BadWords, USAGE, advice};
+use tk_advice::{BadWords, USAGE, advice, remarks};
 use tk_system::RootError;
 use tk_types::Text;
 
@@ -12,7 +12,7 @@ pub(crate) enum Said {
     Usage(String),
     /// What is wrong with the input, and what to do.
     Advice(String),
-    /// What is admitted and can't start.
+    /// What is admitted and can't start, and what else stands beside a report.
     Warnings(String),
     /// Why the folder below which the files stand can't be had.
     Root(Text, RootError),
@@ -25,6 +25,22 @@ pub(crate) fn advice_of(alloc: Global, printed: &[u8], read: Option<&[u8]>) -> S
     };
     match advice(alloc, line, read) {
         Ok(Some(advice)) => Said::Advice(advice),
+        _ => Said::Nothing,
+    }
+}
+
+/// What to say beside what these words printed, by that and by what was read.
+pub(crate) fn remarks_of(
+    alloc: Global,
+    words: &[Text],
+    printed: &[u8],
+    read: Option<&[u8]>,
+) -> Said {
+    let Some(read) = read else {
+        return Said::Nothing;
+    };
+    match remarks(alloc, words, printed, read) {
+        Ok(Some(remarks)) => Said::Warnings(remarks),
         _ => Said::Nothing,
     }
 }

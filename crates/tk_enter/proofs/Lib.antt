@@ -1,0 +1,5 @@
+pub mod Apart
+pub mod Behind
+pub mod Going
+pub mod Settled
+pub mod Spelled

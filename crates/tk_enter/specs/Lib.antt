@@ -1,0 +1,4 @@
+pub mod Enter
+pub mod Going
+pub mod Laws
+pub mod Words
