@@ -1,7 +1,7 @@
 //! Tests of what stands between the journal and the actors, over journals that `simulate` brings about, and a worked history.
 //!
 //! `journals.rt` has the journals and caches that show them, `read_tests.rt` objects at positions of them, `label_tests.rt`
-//! kept labels beside labels made anew.
+//! kept labels beside labels made anew, `written_tests.rt` what is decided of entries that a file may have.
 #![tactic(auto)]
 
 #[cfg(test)]
@@ -10,6 +10,8 @@ mod journals;
 mod label_tests;
 #[cfg(test)]
 mod read_tests;
+#[cfg(test)]
+mod written_tests;
 
 ghost use Rattle.std.specs.Prelude.{◌∷◌};
 ghost use Rattle.tk_journal.specs.Legal.{IsLegal};

@@ -1,0 +1,5 @@
+pub mod Lawful
+pub mod Names
+pub mod Reasons
+pub mod Steps
+pub mod Worked

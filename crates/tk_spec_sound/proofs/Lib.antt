@@ -1,0 +1,9 @@
+pub mod Answers
+pub mod Counts
+pub mod Empty
+pub mod Every
+pub mod Named
+pub mod NamesDiffer
+pub mod Readings
+pub mod Together
+pub mod Unknown
