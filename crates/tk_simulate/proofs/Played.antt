@@ -1,5 +1,5 @@
 -- What a run over a Scenario's events and fair rounds comes to.
-use Rattle.std.proofs.Common.{◌≡◌, ℕ, List, [], ◌∷◌, ◌++◌, replicate, true, sym, subst, arith}
+use Rattle.std.proofs.Common.{◌≡◌, ◌≤◌, ℕ, List, [], ◌∷◌, ◌++◌, replicate, true, refl, sym, subst, arith}
 use Rattle.std.specs.Prelude.{All}
 use Rattle.std.proofs.lemmas.List.Elements.{All-append, All-head, All-replicate, All-tail}
 use Rattle.tk_types.specs.declared.scenario.Event.{Event}
@@ -21,7 +21,7 @@ use Rattle.tk_machine.proofs.Soundness.{sound_run}
 use Rattle.tk_machine.proofs.Start.{start_is_sound}
 use Rattle.tk_scenario_laws.specs.Laws.{IsTimely}
 use Rattle.tk_simulate.specs.Ends.{ActsByScript, AreEndsScripted}
-use Rattle.tk_simulate.specs.Played.{IsPlayed, MayBePlayed, entries_of}
+use Rattle.tk_simulate.specs.Played.{IsPlayed, IsTakenTo, MayBePlayed, entries_of}
 use Rattle.tk_simulate.specs.Scripts.{scenario_in, script_in}
 use Rattle.tk_simulate.proofs.Ends.{runs_end_by_script}
 use Rattle.tk_simulate.proofs.Runs.{runs_admit_nothing, runs_are_timely}
@@ -54,9 +54,12 @@ module _ (given : Admitted) (may : MayBePlayed given) (history : List Entry) whe
   sound : IsSound script first
   sound = start_is_sound script scenario.controllers scenario.kubelets (entries_of given) may.legal may.admits
 
-  pub is_played : IsSimulated script scenario.controllers scenario.kubelets (entries_of given) scenario.events history → (IsOpen history → ⊥) → IsPlayed given history
-  is_played simulated closed = subst (IsPlayed given) simulated.end (record {
-    simulated = subst (IsSimulated script scenario.controllers scenario.kubelets (entries_of given) scenario.events) (sym simulated.end) simulated;
+  pub is_played : (simulated : IsSimulated script scenario.controllers scenario.kubelets (entries_of given) scenario.events history) → simulated.rounds ≤ given.weight
+      → IsTakenTo given simulated.rounds history → (IsOpen history → ⊥) → IsPlayed given history
+  is_played simulated few taken closed = subst (IsPlayed given) simulated.end (record {
+    simulated = record { rounds = simulated.rounds; world = simulated.world; run = simulated.run; end = refl };
+    few = few;
+    taken = subst (IsTakenTo given simulated.rounds) (sym simulated.end) taken;
     closed = subst (λ (h : List Entry). IsOpen h → ⊥) (sym simulated.end) closed;
     legal = sound_after.legal;
     right = legal_is_right simulated.world.history sound_after.legal;

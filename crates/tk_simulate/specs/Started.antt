@@ -7,11 +7,10 @@ use Rattle.tk_journal.specs.declared.admitted.Admitted.{Admitted}
 use Rattle.tk_journal.specs.declared.entry.Entry.{Entry}
 use Rattle.tk_journal.specs.Weight.{weight}
 use Rattle.tk_machine.specs.Fair.{IsPeopled}
-use Rattle.tk_machine.specs.State.{start}
 use Rattle.tk_manifest.specs.declared.kinds.KindSet.TheVariants.{WithScenario}
 use Rattle.tk_simulate.specs.declared.starting.Started.{Started}
-use Rattle.tk_simulate.specs.Played.{MayBePlayed, entries_of, given_by}
-use Rattle.tk_simulate.specs.Scripts.{scenario_in, scripts_by}
+use Rattle.tk_simulate.specs.Played.{IsBegun, MayBePlayed, given_by}
+use Rattle.tk_simulate.specs.Scripts.{scenario_in}
 use Rattle.tk_scenario_laws.specs.Laws.{count_asks}
 use Rattle.tk_world.specs.Goes.{Finishes, MayTakeAll, Runs}
 use Rattle.tk_world.specs.Whole.{IsWorld, Whole, machine_of}
@@ -19,10 +18,7 @@ use Rattle.tk_world.specs.Whole.{IsWorld, Whole, machine_of}
 pub record IsStarted (given : Admitted) (started : Started) : Type 0 where
   pub scenario : started.scenario ≡ scenario_in given.scenario
   pub weight : started.weight ≡ given.weight
-  -- the world is at the start, and its hosts play the outcomes
-  pub world : machine_of started.world ≡ start (scenario_in given.scenario).controllers (scenario_in given.scenario).kubelets (entries_of given)
-  pub pods : started.world.pods ≡ scripts_by (scenario_in given.scenario).outcomes
-  pub stands : IsWorld started.world
+  pub begun : IsBegun given started.world
 
 -- its events may come, and its weight bounds the fair rounds behind them
 pub record MayPlay (started : Started) : Type 0 where

@@ -71,5 +71,5 @@ module _ (script : Script) where
 -- behind the first of these events the others may come
 pub may_next : (event : Event) (later : List Event) (old new : Whole) → Takes event old new → MayTakeAll old (event ∷ later) → MayTakeAll new later
 may_next event later old new takes may =
-    let clock = opened_clock (script_of (scripts_of old)) (machine_of old) event (machine_of new) takes.steps in
-    rw (clock, takes.stays.controllers, takes.stays.nodes) may.1
+    let clock = opened_clock (script_of (scripts_of old)) (machine_of old) event (machine_of new) takes.goes.steps in
+    rw (clock, takes.goes.stays.controllers, takes.goes.stays.nodes) may.1

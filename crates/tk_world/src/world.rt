@@ -12,10 +12,10 @@ ghost use Rattle.tk_held.specs.Laws.{AreAdmits};
 ghost use Rattle.tk_machine.specs.Fair.{IsPeopled};
 ghost use Rattle.tk_machine.specs.State.{controller_events, for_each, kubelet_events, round_events, start};
 ghost use Rattle.tk_machine.specs.Events.{HasTaker, HasViewer};
-ghost use Rattle.tk_world.specs.Goes.{Finishes, Goes, MayTake, MayTakeAll, Runs, Stays, Takes};
+ghost use Rattle.tk_world.specs.Goes.{Finishes, Goes, IsSame, MayTake, MayTakeAll, Runs, Stays, Takes, Took};
 ghost use Rattle.tk_world.specs.Moves.{moves_by};
-ghost use Rattle.tk_world.specs.Stepped.{AskAnswers, IsStepped, KubeletAnswers, WorkerAnswers};
-ghost use Rattle.tk_world.specs.Whole.{IsWorld, machine_of};
+ghost use Rattle.tk_world.specs.Stepped.{AskAnswers, IsStepped, KubeletAnswers, MovesNodes, RestartsNodes, WorkerAnswers};
+ghost use Rattle.tk_world.specs.Whole.{AreNewNodes, IsWorld, machine_of};
 
 use crate::looking::is_open;
 use crate::making::{new_caches, new_nodes};
@@ -83,6 +83,7 @@ impl World {
         requires rooted { HaveRoot (codes "/work") (reverse admitted.entries) }
         ensures start { IfOk result (λ world. machine_of world ≡ start controllers kubelets (reverse admitted.entries)) }
         ensures pods { IfOk result (λ world. world.pods ≡ scripts) }
+        ensures nodes { IfOk result (λ world. AreNewNodes world.pods kubelets world.nodes) }
         ensures spare { IfOk result (λ world. admitted.weight ≤ world.store.spare) }
         ensures world { IfOk result IsWorld }
     {
@@ -127,6 +128,7 @@ impl World {
         requires world { IsWorld self.old }
         requires place { i < length self.old.controllers }
         ensures ok { OnOk result (Goes (moves_by (viewers.Controller i) how ∷ []) self.old self.new) }
+        ensures nodes { OnOk result (MovesNodes (viewers.Controller i) self.old self.new) }
         ensures err { OnErr result (self.new.store.history ≡ self.old.store.history) }
     {
         let cache = &mut self.controllers[i as usize];
@@ -138,6 +140,7 @@ impl World {
         requires world { IsWorld self.old }
         requires place { i < length self.old.nodes }
         ensures ok { OnOk result (Goes (moves_by (viewers.Kubelet i) how ∷ []) self.old self.new) }
+        ensures nodes { OnOk result (MovesNodes (viewers.Kubelet i) self.old self.new) }
         ensures err { OnErr result (self.new.store.history ≡ self.old.store.history) }
     {
         let node = &mut self.nodes[i as usize];
@@ -216,7 +219,8 @@ impl World {
     fn restart_controller(&mut self, i: u32)
         requires world { IsWorld self.old }
         requires place { i < length self.old.controllers }
-        ensures { Goes (events.Restart (viewers.Controller i) ∷ []) self.old self.new }
+        ensures goes { Goes (events.Restart (viewers.Controller i) ∷ []) self.old self.new }
+        ensures nodes { RestartsNodes (viewers.Controller i) self.old self.new }
     {
         let cache = &mut self.controllers[i as usize];
         *cache = TaskCache::empty(self.alloc);
@@ -227,6 +231,7 @@ impl World {
         requires world { IsWorld self.old }
         requires place { i < length self.old.nodes }
         ensures ok { OnOk result (Goes (events.Restart (viewers.Kubelet i) ∷ []) self.old self.new) }
+        ensures nodes { OnOk result (RestartsNodes (viewers.Kubelet i) self.old self.new) }
         ensures err { OnErr result (self.new.store.history ≡ self.old.store.history) }
     {
         let node = &mut self.nodes[i as usize];
@@ -268,7 +273,8 @@ impl World {
     fn set_clock(&mut self, reading: u64)
         requires world { IsWorld self.old }
         requires later { self.old.clock ≤ reading }
-        ensures { Goes (events.Clock reading ∷ []) self.old self.new }
+        ensures goes { Goes (events.Clock reading ∷ []) self.old self.new }
+        ensures nodes { self.new.nodes ≡ self.old.nodes }
     {
         self.clock = reading;
     }
@@ -277,7 +283,7 @@ impl World {
     fn controller_turns(&mut self, i: u32) -> Result<(), AllocError>
         requires world { IsWorld self.old }
         requires place { i < length self.old.controllers }
-        ensures { OnOk result (Goes (controller_events i) self.old self.new) }
+        ensures { OnOk result (Took (controller_events i) self.old self.new) }
     {
         self.move_controller(i, Move::DeliverAll)?;
         self.turn_runs(i)?;
@@ -290,7 +296,7 @@ impl World {
     fn kubelet_turns(&mut self, i: u32) -> Result<(), AllocError>
         requires world { IsWorld self.old }
         requires place { i < length self.old.nodes }
-        ensures { OnOk result (Goes (kubelet_events i) self.old self.new) }
+        ensures { OnOk result (Took (kubelet_events i) self.old self.new) }
     {
         self.move_kubelet(i, Move::DeliverAll)?;
         self.turn_kubelet(i)?;
@@ -299,7 +305,7 @@ impl World {
 
     fn controllers_turns(&mut self) -> Result<(), AllocError>
         requires world { IsWorld self.old }
-        ensures { OnOk result (Goes (for_each controller_events 0 (length self.old.controllers)) self.old self.new) }
+        ensures { OnOk result (Took (for_each controller_events 0 (length self.old.controllers)) self.old self.new) }
     {
         for i in 0..self.controllers.len() as u32 {
             self.controller_turns(i)?;
@@ -309,7 +315,7 @@ impl World {
 
     fn kubelets_turns(&mut self) -> Result<(), AllocError>
         requires world { IsWorld self.old }
-        ensures { OnOk result (Goes (for_each kubelet_events 0 (length self.old.nodes)) self.old self.new) }
+        ensures { OnOk result (Took (for_each kubelet_events 0 (length self.old.nodes)) self.old self.new) }
     {
         for i in 0..self.nodes.len() as u32 {
             self.kubelet_turns(i)?;
@@ -383,7 +389,7 @@ impl World {
     pub fn is_open(&mut self) -> Result<bool, AllocError>
         requires world { IsWorld self.old }
         ensures open { IfOk result (λ is_open. IsTrue is_open ↔ IsOpen self.old.store.history) }
-        ensures same { machine_of self.new ≡ machine_of self.old }
+        ensures same { IsSame self.old self.new }
         ensures stays { OnOk result (Stays self.old self.new) }
     {
         deliver_all(&mut self.watch, self.store.journal())?;

@@ -1,10 +1,10 @@
-use Rattle.std.proofs.Common.{◌≡◌, ◌∙◌, Bool, List, true, ap, subst, sym}
+use Rattle.std.proofs.Common.{◌≡◌, ◌∙◌, Bool, List, true, ap, refl, subst, sym}
 use Rattle.std.specs.Prelude.{◌↔◌}
 use Rattle.tk_journal.specs.declared.entry.Entry.{Entry}
 use Rattle.tk_journal.specs.Progress.{IsOpen}
 use Rattle.tk_cache.specs.Fronts.{Shows}
 use Rattle.tk_cache.specs.Views.{seen}
-use Rattle.tk_world.specs.Goes.{Stays}
+use Rattle.tk_world.specs.Goes.{IsSame, Stays}
 use Rattle.tk_world.specs.Looking.{is_open_in}
 use Rattle.tk_world.specs.Whole.{Whole, whole_of}
 use Rattle.tk_world.proofs.Inside.{stands_inside}
@@ -24,3 +24,8 @@ returns-clause-stays c =
     subst (λ (w : Whole). Stays w (whole_of c.self.inside.store c.self.inside.clock c.self.inside.controllers.items c.self.inside.nodes.items c.self.inside.scripts c.deliver_all.new.cache)) c.self.view_is
     (watch_set c.self.inside.store c.self.inside.clock c.self.inside.controllers.items c.self.inside.nodes.items c.self.inside.scripts c.self.inside.watch (stands_inside (whole_of c.self.inside.store c.self.inside.clock c.self.inside.controllers.items c.self.inside.nodes.items c.self.inside.scripts c.self.inside.watch) c.args.self.now c.self.view_is c.requires.world)
     c.deliver_all.new.cache (subst (Shows (seen c.deliver_all.new.cache)) c.journal.ensures c.in_ok-deliver_all.ensures.shows))
+
+pub returns-clause-same : goal.returns-clause-same
+returns-clause-same c =
+    subst (λ (w : Whole). IsSame w (whole_of c.self.inside.store c.self.inside.clock c.self.inside.controllers.items c.self.inside.nodes.items c.self.inside.scripts c.deliver_all.new.cache)) c.self.view_is
+    (record { store = refl; clock = refl; controllers = refl; nodes = refl; pods = refl })

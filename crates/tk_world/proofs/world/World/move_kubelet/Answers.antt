@@ -1,4 +1,5 @@
-use Rattle.std.proofs.Common.{◌≡◌, [], ◌∷◌, List, subst}
+use Rattle.std.proofs.Common.{◌≡◌, [], ◌∷◌, List, refl, subst}
+use Rattle.std.proofs.lemmas.Result.{on_ok_weaker}
 use Rattle.std.specs.Prelude.{OnOk, slice_set}
 use Rattle.tk_types.specs.declared.scenario.Viewer.TheVariants as viewers
 use Rattle.tk_journal.specs.declared.entry.Entry.{Entry}
@@ -6,6 +7,7 @@ use Rattle.tk_cache.specs.Fronts.{Shows}
 use Rattle.tk_cache.specs.Views.{seen}
 use Rattle.tk_world.specs.Goes.{Goes}
 use Rattle.tk_world.specs.Moves.{moved, moves_by}
+use Rattle.tk_world.specs.Stepped.{MovesNodes}
 use Rattle.tk_world.specs.Whole.{Whole, whole_of}
 use Rattle.tk_world.proofs.Inside.{node_at, ok_both, stands_inside}
 use Rattle.tk_world.proofs.Moved.{node_moves}
@@ -20,3 +22,15 @@ returns-clause-ok c =
     c.args.how c.args.i c.index_mut-node.result.now c.move_cache.new.cache (node_at (whole_of c.self.inside.store c.self.inside.clock c.self.inside.controllers.items c.self.inside.nodes.items c.self.inside.scripts c.self.inside.watch) c.args.self.now c.self.view_is c.requires.world c.args.i c.index_mut-node.result.now c.requires.place c.index_mut-node.ensures.value)
     (subst (λ (h : List Entry). c.move_cache.new.cache.fronts ≡ moved c.args.how h c.index_mut-node.result.now.cache.fronts) c.journal.ensures fronts)
     (subst (Shows (seen c.move_cache.new.cache)) c.journal.ensures shows)))
+
+pub returns-clause-nodes : goal.returns-clause-nodes
+returns-clause-nodes c =
+    subst (λ (w : Whole). OnOk c.move_cache.result (MovesNodes (viewers.Kubelet c.args.i) w
+    (whole_of c.self.inside.store c.self.inside.clock c.self.inside.controllers.items (slice_set c.self.inside.nodes.items c.args.i (record c.index_mut-node.result.now { cache = c.move_cache.new.cache })) c.self.inside.scripts c.self.inside.watch))) c.self.view_is
+    (on_ok_weaker c.move_cache.result (λ fronts. record {
+      node = c.index_mut-node.result.now;
+      at = (node_at (whole_of c.self.inside.store c.self.inside.clock c.self.inside.controllers.items c.self.inside.nodes.items c.self.inside.scripts c.self.inside.watch) c.args.self.now c.self.view_is c.requires.world c.args.i c.index_mut-node.result.now c.requires.place c.index_mut-node.ensures.value);
+      now = record c.index_mut-node.result.now { cache = c.move_cache.new.cache };
+      behind = refl;
+      how = record { kubelet = refl; life = refl; host = refl };
+    }) c.move_cache.ensures.fronts)

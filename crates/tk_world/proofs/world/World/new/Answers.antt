@@ -13,3 +13,6 @@ returns-clause-world c =
     c.requires.legal c.requires.admits c.requires.rooted c.in_ok-controllers.ensures
     (subst (λ (pods : List PodScript). AreNewNodes pods c.args.kubelets c.in_ok-nodes.nodes.items) c.as_slice.ensures c.in_ok-nodes.ensures)
     c.empty.ensures c.ranges.controllers.fits c.ranges.kubelets.fits)
+
+pub returns-clause-nodes : goal.returns-clause-nodes
+returns-clause-nodes c = subst (λ (pods : List PodScript). AreNewNodes pods c.args.kubelets c.in_ok-nodes.nodes.items) c.as_slice.ensures c.in_ok-nodes.ensures

@@ -1,4 +1,4 @@
-use Rattle.std.proofs.Common.{[], ◌∷◌, subst}
+use Rattle.std.proofs.Common.{[], ◌∷◌, refl, subst}
 use Rattle.std.specs.Prelude.{IfOk, OnOk, slice_set}
 use Rattle.std.proofs.lemmas.Result.{IfOk-weaker, on_ok_weaker}
 use Rattle.tk_types.specs.declared.scenario.Event.TheVariants as events
@@ -6,7 +6,6 @@ use Rattle.tk_types.specs.declared.scenario.Taker.TheVariants as takers
 use Rattle.tk_cache.specs.Views.{seen}
 use Rattle.tk_kubelet.specs.Seat.{seat_of}
 use Rattle.tk_kubelet.specs.Turn.{TurnGives}
-use Rattle.tk_steps.proofs.Gets.{set_here}
 use Rattle.tk_world.specs.Goes.{Goes}
 use Rattle.tk_world.specs.Nodes.{hosts_between}
 use Rattle.tk_world.specs.Stepped.{KubeletAnswers}
@@ -38,6 +37,6 @@ returns-clause-answer c =
       node = c.index_mut-node.result.now;
       at = (node_at (whole_of c.self.inside.store c.self.inside.clock c.self.inside.controllers.items c.self.inside.nodes.items c.self.inside.scripts c.self.inside.watch) c.args.self.now c.self.view_is c.requires.world c.args.i c.index_mut-node.result.now c.requires.place c.index_mut-node.ensures.value);
       now = c.turn.new.self;
-      behind = set_here c.self.inside.nodes.items c.turn.new.self c.index_mut-node.result.now c.args.i (node_at (whole_of c.self.inside.store c.self.inside.clock c.self.inside.controllers.items c.self.inside.nodes.items c.self.inside.scripts c.self.inside.watch) c.args.self.now c.self.view_is c.requires.world c.args.i c.index_mut-node.result.now c.requires.place c.index_mut-node.ensures.value);
+      behind = refl;
       gives = gives;
     }) c.turn.ensures.answer)

@@ -1,4 +1,4 @@
-use Rattle.std.proofs.Common.{◌≢◌, [], ◌∷◌, ℕ, subst, sym}
+use Rattle.std.proofs.Common.{◌≢◌, [], ◌∷◌, ℕ, refl, subst, sym}
 use Rattle.std.specs.Prelude.{IfOk, OnOk}
 use Rattle.std.proofs.lemmas.Result.{on_ok_weaker}
 use Rattle.tk_types.specs.declared.scenario.Event.TheVariants as events
@@ -32,4 +32,5 @@ returns-clause-answer c =
       at = (controller_at (whole_of c.self.inside.store c.self.inside.clock c.self.inside.controllers.items c.self.inside.nodes.items c.self.inside.scripts c.self.inside.watch) c.args.self.now c.self.view_is c.requires.world c.args.i c.index-cache.result.now c.requires.place c.index-cache.ensures);
       took = subst (λ (t : Turn). TookFirst (seen c.index-cache.result.now) (actors.Tasks c.args.i) c.self.inside.clock c.self.inside.store t c.turn.new.store) (sym same) (subst (λ (n : ℕ). TookFirst (seen c.index-cache.result.now) (actors.Tasks n) c.self.inside.clock c.self.inside.store c.in_ok-turn.field-0 c.turn.new.store) c.new-worker.ensures c.in_ok-turn.ensures.first);
       room = subst (λ (t : Turn). t ≢ turns.Memory) (sym same) room;
+      nodes = refl;
     }))
