@@ -1,3 +1,4 @@
+pub mod Choosing
 pub mod Coverage
 pub mod Growing
 pub mod Parts

@@ -18,6 +18,7 @@ use Rattle.tk_cache.specs.Views.{Kept, seen}
 use Rattle.tk_cache.proofs.Showing.{shows_grown, shows_none}
 use Rattle.tk_rounds.specs.declared.bench.Controller.{Controller}
 use Rattle.tk_rounds.specs.Bench.{ControllerFollows}
+use Rattle.tk_rounds.specs.Chosen.{AreChosen}
 use Rattle.tk_rounds.specs.Covered.{IsCovered}
 use Rattle.tk_rounds.specs.Follows.{Follows, FollowsSince, IsToldSince, IsToldWhile, Told, told_by}
 use Rattle.tk_rounds.specs.Growth.{AreDistinct, AreTwoKinds, GrowsBy, IsOwn}
@@ -227,10 +228,16 @@ module _ {K G : Type 0} (answers : G → Option (List GateTurn)) (readings : K �
   abbrev place : K → Kept → Stored → Place
   place clock cache store = place_of readings last clock cache store
 
-  pub controller_follows : (start old mid new : Controller K G) (given : GateTurn) (before after : Stored) → mid ≡ record old { gate = mid.gate } → AddsAnswer given (answers old.gate) (answers mid.gate) → new.gate ≡ mid.gate → new.number ≡ mid.number → Shows (seen old.cache) before.history → IsTurn (of_controller mid.number) given (place mid.clock mid.cache before) (place new.clock new.cache after) → ControllerFollows answers readings last start old before.history → ControllerFollows answers readings last start new after.history
-  controller_follows start old mid new given before after same adds gate number shows turn is =
+  pub controller_follows : (start old mid new : Controller K G) (given : GateTurn) (before after : Stored) → mid ≡ record old { gate = mid.gate } → AddsAnswer given (answers old.gate) (answers mid.gate) → new.gate ≡ mid.gate → new.number ≡ mid.number → Shows (seen old.cache) before.history → IsTurn (of_controller mid.number) given (place mid.clock mid.cache before) (place new.clock new.cache after)
+      → (AreChosen mid.number before.history → AreChosen mid.number after.history) → ControllerFollows answers readings last start old before.history → ControllerFollows answers readings last start new after.history
+  controller_follows start old mid new given before after same adds gate number shows turn chosen is =
       let done = subst (λ (c : Controller K G). IsTurn (of_controller c.number) given (place c.clock c.cache before) (place new.clock new.cache after)) same turn in
-      let named : new.number ≡ old.number = number ∙ ap (λ (c : Controller K G). c.number) same in
-      subst (λ (n : ℕ). FollowsSince (of_controller n) (told_by answers readings last start.gate start.clock) (told_by answers readings last new.gate new.clock) new.cache.fronts after.history) (sym named)
-      (turn_on (of_controller old.number) (told_by answers readings last start.gate start.clock) (answers old.gate) (answers new.gate) given (place old.clock old.cache before) (place new.clock new.cache after) shows.within
-      (subst (λ (g : G). AddsAnswer given (answers old.gate) (answers g)) (sym gate) adds) done is)
+      let between : mid.number ≡ old.number = ap (λ (c : Controller K G). c.number) same in
+      let named : new.number ≡ old.number = number ∙ between in
+      record {
+        since =
+            subst (λ (n : ℕ). FollowsSince (of_controller n) (told_by answers readings last start.gate start.clock) (told_by answers readings last new.gate new.clock) new.cache.fronts after.history) (sym named)
+            (turn_on (of_controller old.number) (told_by answers readings last start.gate start.clock) (answers old.gate) (answers new.gate) given (place old.clock old.cache before) (place new.clock new.cache after) shows.within
+            (subst (λ (g : G). AddsAnswer given (answers old.gate) (answers g)) (sym gate) adds) done is.since);
+        chosen = subst (λ (n : ℕ). AreChosen n after.history) (sym number) (chosen (subst (λ (n : ℕ). AreChosen n before.history) (sym between) is.chosen));
+      }

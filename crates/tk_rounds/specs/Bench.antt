@@ -8,6 +8,7 @@ use Rattle.tk_cache.specs.Views.{seen}
 use Rattle.tk_kubelet.specs.Holding.{IsMet, IsSameKubelet}
 use Rattle.tk_rounds.specs.declared.bench.Controller.{Controller}
 use Rattle.tk_rounds.specs.declared.bench.Node.{Node}
+use Rattle.tk_rounds.specs.Chosen.{AreChosen}
 use Rattle.tk_rounds.specs.Follows.{FollowsSince, told_by}
 use Rattle.tk_rounds.specs.Members.{of_controller, of_kubelet, AreOfLife}
 use Rattle.tk_rounds.specs.Outcomes.{AreForClaimed, HasOutcomes}
@@ -29,10 +30,11 @@ module _ {K G : Type 0} where
   abbrev pub IsReadyController : List Entry → Controller K G → Type 0
   IsReadyController history c = Shows (seen c.cache) history
 
-  -- its entries are covered and timed by what its gate and clock gave since a start
-  abbrev pub ControllerFollows : (G → Option (List GateTurn)) → (K → Option (List ℕ)) → (K → ℕ) → Controller K G → Controller K G → List Entry → Type 0
-  ControllerFollows answers readings last start c history =
-      FollowsSince (of_controller c.number) (told_by answers readings last start.gate start.clock) (told_by answers readings last c.gate c.clock) c.cache.fronts history
+  pub record ControllerFollows (answers : G → Option (List GateTurn)) (readings : K → Option (List ℕ)) (last : K → ℕ) (start c : Controller K G) (history : List Entry) : Type 0 where
+    -- its entries are covered and timed by what its gate and clock gave since a start
+    pub since : FollowsSince (of_controller c.number) (told_by answers readings last start.gate start.clock) (told_by answers readings last c.gate c.clock) c.cache.fronts history
+    -- each is a choice of its workers
+    pub chosen : AreChosen c.number history
 
 module _ {K H G : Type 0} where
   abbrev pub node_number : Node K H G → ℕ

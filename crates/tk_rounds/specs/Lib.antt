@@ -1,4 +1,5 @@
 pub mod Bench
+pub mod Chosen
 pub mod Covered
 pub mod Follows
 pub mod Growth

@@ -2,6 +2,7 @@ ghost use Rattle.std.specs.Prelude.{◌≡◌, ◌≢◌, IfOk, OnOk, OnErr};
 ghost use Rattle.tk_cache.specs.Fronts.{Shows};
 ghost use Rattle.tk_cache.specs.Views.{seen};
 ghost use Rattle.tk_edge.specs.declared.gate.GateTurn.TheVariants.{Work};
+ghost use Rattle.tk_rounds.specs.Chosen.{AreChosen};
 ghost use Rattle.tk_rounds.specs.Members.{of_controller};
 ghost use Rattle.tk_rounds.specs.Turning.{ControllerTook, ControllerWorks, IsTurn, is_written as is_written_turn, place_of};
 ghost use Rattle.tk_store.specs.declared.turn.Turn.TheVariants as turns;
@@ -54,6 +55,7 @@ impl<K: Clock, G: Gate> Controller<K, G> {
         ensures same { self.new ≡ record self.old { clock = self.new.clock } }
         ensures turn { IsTurn (of_controller self.old.number) Work (place_of K.readings K.last self.old.clock self.old.cache store.old) (place_of K.readings K.last self.new.clock self.new.cache store.new) }
         ensures took { IfOk result (ControllerWorks self.old.number (seen self.old.cache) (K.last self.new.clock) store.old store.new) }
+        ensures chosen { AreChosen self.old.number store.old.history → AreChosen self.old.number store.new.history }
         ensures err { OnErr result (store.new ≡ store.old) }
     {
         let moment = self.clock.now();
@@ -67,6 +69,7 @@ impl<K: Clock, G: Gate> Controller<K, G> {
         ensures number { self.new.number ≡ self.old.number }
         ensures turn { IsTurn (of_controller self.old.number) given (place_of K.readings K.last self.old.clock self.old.cache store.old) (place_of K.readings K.last self.new.clock self.new.cache store.new) }
         ensures took { given ≡ Work → IfOk result (ControllerWorks self.old.number (seen self.old.cache) (K.last self.new.clock) store.old store.new) }
+        ensures chosen { AreChosen self.old.number store.old.history → AreChosen self.old.number store.new.history }
         ensures err { OnErr result (store.new ≡ store.old) }
     {
         match given {
@@ -94,6 +97,7 @@ impl<K: Clock, G: Gate> Controller<K, G> {
         ensures shows { Shows (seen self.new.cache) store.new.history }
         ensures turn { IsTurn (of_controller self.old.number) given (place_of K.readings K.last self.old.clock self.old.cache store.old) (place_of K.readings K.last self.new.clock self.new.cache store.new) }
         ensures took { given ≡ Work → IfOk result (ControllerWorks self.old.number (seen self.old.cache) (K.last self.new.clock) store.old store.new) }
+        ensures chosen { AreChosen self.old.number store.old.history → AreChosen self.old.number store.new.history }
         ensures err { OnErr result (store.new ≡ store.old) }
     {
         let wrote = self.act(alloc, given, store);

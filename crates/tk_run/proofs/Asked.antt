@@ -84,7 +84,7 @@ all_from x (y ∷ ys) differ = All-cons (λ (z : ℕ). x ≢ z) y ys (differ y (
 
 module _ (since : ℕ) (words : List AskWord) (tried : List Bool) (place : ℕ) (word : AskWord) (at : slice_get words place ≡ Some word) (untried : slice_get tried place ≡ Some false) (older : List Entry) where
   -- it was refused
-  tried_refused : IsRefusedAtEnd older word → AreTried since words tried older → AreTried since words (slice_set tried place true) older
+  pub tried_refused : IsRefusedAtEnd older word → AreTried since words tried older → AreTried since words (slice_set tried place true) older
   tried_refused refused was = record {
     asked = was.asked;
     only = λ other has. tried_set tried place other (was.only other has);

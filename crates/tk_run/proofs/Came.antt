@@ -30,6 +30,7 @@ use Rattle.tk_rounds.specs.declared.bench.Bench.{Bench}
 use Rattle.tk_rounds.specs.declared.bench.Controller.{Controller}
 use Rattle.tk_rounds.specs.declared.bench.Node.{Node}
 use Rattle.tk_rounds.specs.Bench.{ControllerFollows, IsReadyController, IsReadyNode, NodeFollows}
+use Rattle.tk_rounds.specs.Chosen.{AreChosen}
 use Rattle.tk_rounds.specs.Follows.{FollowsSince, told_by}
 use Rattle.tk_rounds.specs.Growth.{GrowsBy}
 use Rattle.tk_rounds.specs.Outcomes.{AreForClaimed, HasOutcomes}
@@ -173,6 +174,7 @@ module _ {K H G : Type 0} (answers : G → Option (List GateTurn)) (readings : K
       was : Controller K G
       at : slice_get old.controllers.items i ≡ Some was
       follows : FollowsSince (of_controller i) (told_by answers readings last was.gate was.clock) (told_by answers readings last c.gate c.clock) c.cache.fronts history
+      chosen : AreChosen i history
 
     came_controller : (i : ℕ) (c : Controller K G) → slice_get now.controllers.items i ≡ Some c → CameController i c
     came_controller i c at =
@@ -187,7 +189,8 @@ module _ {K H G : Type 0} (answers : G → Option (List GateTurn)) (readings : K
         record {
           was = was.was;
           at = was.at;
-          follows = subst (λ (n : ℕ). FollowsSince (of_controller n) (told_by answers readings last was.was.gate was.was.clock) (told_by answers readings last c.gate c.clock) c.cache.fronts history) (ready.controllers i c at).0 came;
+          follows = subst (λ (n : ℕ). FollowsSince (of_controller n) (told_by answers readings last was.was.gate was.was.clock) (told_by answers readings last c.gate c.clock) c.cache.fronts history) (ready.controllers i c at).0 came.since;
+          chosen = subst (λ (n : ℕ). AreChosen n history) (ready.controllers i c at).0 came.chosen;
         }
 
     record CameNode (i : ℕ) (n : Node K H G) : Type 0 where
@@ -223,6 +226,7 @@ module _ {K H G : Type 0} (answers : G → Option (List GateTurn)) (readings : K
       legal = legal;
       right = right history legal;
       admits = subst (λ (h : List Entry). AdmitsNoMore h history) (sym same) (admits_no_more (length begun.controllers.items) (length begun.kubelets.items) first history legal goes.grows);
+      counts = (goes.counts.0 ∙ counts.0, goes.counts.1 ∙ counts.1);
       members = subst (λ (h : List Entry). GrowsBy (OfMembers (length old.controllers.items) (length old.kubelets.items)) h history) (sym same)
           (subst (λ (n : ℕ). GrowsBy (OfMembers n (length old.kubelets.items)) first history) counts.0 (subst (λ (n : ℕ). GrowsBy (OfMembers (length begun.controllers.items) n) first history) counts.1 goes.grows));
       lives = λ i n at.
@@ -231,6 +235,7 @@ module _ {K H G : Type 0} (answers : G → Option (List GateTurn)) (readings : K
       controllers = λ i a b at_a at_b.
           let came = came_controller i b at_b in
           subst (λ (x : Controller K G). FollowsSince (of_controller i) (told_by answers readings last x.gate x.clock) (told_by answers readings last b.gate b.clock) b.cache.fronts history) (same_Some came.was a (sym came.at ∙ at_a)) came.follows;
+      chosen = λ i c at. (came_controller i c at).chosen;
       nodes = λ i a b at_a at_b.
           let came = came_node i b at_b in
           let follows = subst (λ (number : ℕ). FollowsSince (of_kubelet number) (told_by answers readings last came.was.gate came.was.clock) (told_by answers readings last b.gate b.clock) b.cache.fronts history) (ready.nodes i b at_b).0 came.follows.since in

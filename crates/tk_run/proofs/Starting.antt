@@ -27,6 +27,7 @@ use Rattle.tk_rounds.specs.Follows.{FollowsSince, IsToldSince, IsToldWhile, Told
 use Rattle.tk_rounds.specs.Outcomes.{HasOutcomes}
 use Rattle.tk_rounds.specs.Members.{AreOfLife, IsOfLife, by_controller, by_kubelet, of_controller, of_kubelet}
 use Rattle.tk_rounds.specs.Timed.{IsSublist, moments}
+use Rattle.tk_rounds.proofs.Choosing.{chosen_none}
 use Rattle.tk_rounds.proofs.Coverage.{fronts_none}
 use Rattle.tk_edge.specs.Readings.{AddsWhileTold}
 use Rattle.tk_run.specs.Asks.{UserFollows, by_user, clock_told, of_user}
@@ -111,8 +112,10 @@ module _ {K G : Type 0} (answers : G → Option (List GateTurn)) (readings : K �
   controller_ready number c history new = shows_none (seen c.cache) history new
 
   pub controller_starts : (number : ℕ) (c : Controller K G) (history : List Entry) → IsNewController c → All IsOfAdmission history → ControllerFollows answers readings last (controller_begun number c) (controller_begun number c) history
-  controller_starts number c history new all =
-      starts (of_controller number) (told_by answers readings last c.gate c.clock) c.cache.fronts history (none_of_controller number history all) new.within
+  controller_starts number c history new all = record {
+    since = starts (of_controller number) (told_by answers readings last c.gate c.clock) c.cache.fronts history (none_of_controller number history all) new.within;
+    chosen = chosen_none number history (none_of_controller number history all);
+  }
 
 module _ {K H G : Type 0} (answers : G → Option (List GateTurn)) (readings : K → Option (List ℕ)) (last : K → ℕ) (told : H → List Event) (killed : H → ℕ → Bool) where
   pub node_ready : (root : List ℕ) (number : ℕ) (n : Node K H G) (history : List Entry) → IsNewNode told n → AreAdmits history → IsReadyNode told killed history (node_begun root number n)

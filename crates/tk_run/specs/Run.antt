@@ -23,6 +23,7 @@ use Rattle.tk_simulate.specs.Runs.{AdmitsNoMore, AreOnClock}
 use Rattle.tk_rounds.specs.declared.bench.Bench.{Bench}
 use Rattle.tk_rounds.specs.declared.bench.Controller.{Controller}
 use Rattle.tk_rounds.specs.declared.bench.Node.{Node}
+use Rattle.tk_rounds.specs.Chosen.{AreChosen}
 use Rattle.tk_rounds.specs.Follows.{FollowsSince, told_by}
 use Rattle.tk_rounds.specs.Growth.{GrowsBy}
 use Rattle.tk_rounds.specs.Members.{AreOfLife, of_controller, of_kubelet}
@@ -81,6 +82,8 @@ module _ {K H G : Type 0} (answers : G → Option (List GateTurn)) (readings : K
     pub right : (n : ℕ) → IsRight (past n history)
     -- it begins with what was admitted, and admits nothing more
     pub admits : AdmitsNoMore (entries_of given) history
+    -- the members of the bench are handed back, all of them
+    pub counts : (length new.controllers.items ≡ length old.controllers.items) × (length new.kubelets.items ≡ length old.kubelets.items)
     -- each other entry is of a member of the bench, of a kubelet in its first life, or of the user
     pub members : GrowsBy (OfMembers (length old.controllers.items) (length old.kubelets.items)) (entries_of given) history
     pub lives : (i : ℕ) (n : Node K H G) → slice_get new.kubelets.items i ≡ Some n → AreOfLife i 1 history
@@ -88,6 +91,8 @@ module _ {K H G : Type 0} (answers : G → Option (List GateTurn)) (readings : K
     -- there on as entries; each Work answer took one reading, and each entry's moment is a reading of its own
     pub controllers : (i : ℕ) (a b : Controller K G) → slice_get old.controllers.items i ≡ Some a → slice_get new.controllers.items i ≡ Some b
         → FollowsSince (of_controller i) (told_by answers readings last a.gate a.clock) (told_by answers readings last b.gate b.clock) b.cache.fronts history
+    -- each entry of a controller is a choice of its workers: the first that was justified by what they had seen
+    pub chosen : (i : ℕ) (c : Controller K G) → slice_get new.controllers.items i ≡ Some c → AreChosen i history
     pub nodes : (i : ℕ) (a b : Node K H G) → slice_get old.kubelets.items i ≡ Some a → slice_get new.kubelets.items i ≡ Some b
         → FollowsSince (of_kubelet i) (told_by answers readings last a.gate a.clock) (told_by answers readings last b.gate b.clock) b.cache.fronts history
     -- each host started only steps of pods that its kubelet claimed, each once, in order, and each behind those before it

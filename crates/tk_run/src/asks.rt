@@ -8,7 +8,7 @@ use std::alloc::{AllocError, Global};
 use tk_edge::Clock;
 use tk_store::Store;
 use tk_types::{Asked, Text, TryCopy};
-use tk_user::ask;
+use tk_user::{ask, refused};
 
 /// What is asked of the run or TaskRun of a name, and how many milliseconds after the call began.
 #[derive(Drop)]
@@ -126,6 +126,53 @@ pub(crate) fn ask_due<K: Clock>(
     store.legal();
     for place in 0..words.len() {
         ask_word(alloc, user, words, place, asking, store)?;
+    }
+    Ok(())
+}
+
+/// Counts the word at a place as tried where it is refused now, and so for good. The only error is want of memory.
+fn refuse_word(
+    alloc: Global,
+    words: &[AskWord],
+    place: usize,
+    asking: &mut Asking,
+    store: &Store,
+) -> Result<(), AllocError>
+    requires place { place < length words.now }
+    requires count { length asking.old.tried.items ≡ length words.now }
+    ensures count { length asking.new.tried.items ≡ length asking.old.tried.items }
+    ensures start { asking.new.start ≡ asking.old.start }
+    ensures asks { (since : ℕ) → AreTried since words.now asking.old.tried.items store.now.history → AreTried since words.now asking.new.tried.items store.now.history }
+{
+    if asking.tried[place] {
+        return Ok(());
+    }
+    let word = &words[place];
+    if let Some(_) = refused(alloc, store.journal(), word.run.as_str(), word.status)? {
+        asking.tried[place] = true;
+    }
+    Ok(())
+}
+
+/// Counts each word as tried that is refused now, and so for good: at the first round that came to nothing behind an entry,
+/// since no later one finds another journal. The only error is want of memory.
+pub(crate) fn refuse_rest(
+    alloc: Global,
+    words: &[AskWord],
+    asking: &mut Asking,
+    store: &Store,
+    idle: u64,
+) -> Result<(), AllocError>
+    requires count { length asking.old.tried.items ≡ length words.now }
+    ensures count { length asking.new.tried.items ≡ length asking.old.tried.items }
+    ensures start { asking.new.start ≡ asking.old.start }
+    ensures asks { (since : ℕ) → AreTried since words.now asking.old.tried.items store.now.history → AreTried since words.now asking.new.tried.items store.now.history }
+{
+    if idle != 1 {
+        return Ok(());
+    }
+    for place in 0..words.len() {
+        refuse_word(alloc, words, place, asking, store)?;
     }
     Ok(())
 }

@@ -9,7 +9,7 @@ ghost use Rattle.tk_rounds.specs.Members.{of_controller, of_kubelet};
 ghost use Rattle.tk_run.specs.Asks.{AreTried, IsEachTried};
 ghost use Rattle.tk_run.specs.Going.{GoesOn, IsReady};
 
-use crate::asks::{AskWord, Asking, all_tried, ask_due};
+use crate::asks::{AskWord, Asking, all_tried, ask_due, refuse_rest};
 use std::alloc::{AllocError, Global};
 use std::sync::Wait;
 use std::thread::Threads;
@@ -97,7 +97,7 @@ fn some_round<
     }
 }
 
-/// A round of the bench, and by how many entries the journal grew. The only error is want of memory.
+/// A round of the bench. The only error is want of memory.
 fn round<
     T: Threads + Wait + Sync,
     K: Clock + Drop + Send,
@@ -111,7 +111,7 @@ fn round<
     asking: &Asking,
     store: &mut Store,
     way: Way,
-) -> Result<u64, AllocError>
+) -> Result<(), AllocError>
     requires ready { IsReady H.told H.killed store.old.history bench.old }
     ensures legal { IsLegal store.new.history }
     ensures ready { IsReady H.told H.killed store.new.history bench.new }
@@ -120,7 +120,8 @@ fn round<
 {
     let end = some_round(rt, alloc, bench, store, way);
     store.legal();
-    Ok(end?.wrote)
+    end?;
+    Ok(())
 }
 
 /// How many rounds in a row that come to nothing go by until the controllers look again.
@@ -140,7 +141,7 @@ fn way_behind(idle: u64, has_asked: bool) -> Way {
     }
 }
 
-/// What is due is asked, and a round follows. The only error is want of memory.
+/// What is due is asked, and a round follows. It tells whether the journal grew. The only error is want of memory.
 fn go_on<
     T: Threads + Wait + Sync,
     K: Clock + Drop + Send,
@@ -154,7 +155,7 @@ fn go_on<
     asking: &mut Asking,
     store: &mut Store,
     idle: u64,
-) -> Result<u64, AllocError>
+) -> Result<bool, AllocError>
     requires ready { IsReady H.told H.killed store.old.history bench.old }
     requires count { length asking.old.tried.items ≡ length words.now }
     ensures count { length asking.new.tried.items ≡ length asking.old.tried.items }
@@ -175,27 +176,41 @@ fn go_on<
         asking,
         store,
         way_behind(idle, has_asked),
-    )
+    )?;
+    Ok(store.journal().len() > before)
 }
 
-/// Whether each word was tried, and no run that isn't pending is open. The only error is want of memory.
-fn is_over(asking: &Asking, watch: &mut Cache, store: &Store) -> Result<bool, AllocError>
+/// Whether no run that isn't pending is open and each word was tried. Where nothing is open a word that is refused counts as
+/// tried before its time, since it stays refused. The only error is want of memory.
+fn is_over(
+    alloc: Global,
+    words: &[AskWord],
+    asking: &mut Asking,
+    watch: &mut Cache,
+    store: &Store,
+    idle: u64,
+) -> Result<bool, AllocError>
     requires shows { Shows (seen watch.old) store.now.history }
+    requires count { length asking.old.tried.items ≡ length words.now }
+    ensures count { length asking.new.tried.items ≡ length asking.old.tried.items }
+    ensures start { asking.new.start ≡ asking.old.start }
+    ensures asks { (since : ℕ) → AreTried since words.now asking.old.tried.items store.now.history → AreTried since words.now asking.new.tried.items store.now.history }
     ensures shows { Shows (seen watch.new) store.now.history }
-    ensures over { IfOk result (λ over. IsTrue over → IsEachTried asking.now.tried.items × (IsOpen store.now.history → ⊥)) }
+    ensures over { IfOk result (λ over. IsTrue over → IsEachTried asking.new.tried.items × (IsOpen store.now.history → ⊥)) }
 {
-    if !all_tried(asking.tried.as_slice()) {
+    if is_going(watch, store)? {
         return Ok(false);
     }
-    Ok(!is_going(watch, store)?)
+    refuse_rest(alloc, words, asking, store, idle)?;
+    Ok(all_tried(asking.tried.as_slice()))
 }
 
 /// How often the user's clock rests at most behind one round.
 const RESTS: u64 = 64;
 
-/// How many rounds came to nothing, behind one that wrote so many entries.
-fn idle_after(idle: u64, wrote: u64) -> u64 {
-    if wrote > 0 { 0 } else { idle.saturating_add(1) }
+/// How many rounds came to nothing, behind one in which the journal grew or didn't.
+fn idle_after(idle: u64, grew: bool) -> u64 {
+    if grew { 0 } else { idle.saturating_add(1) }
 }
 
 /// The user's clock rests, the more often the more rounds came to nothing.
@@ -208,7 +223,7 @@ fn rest<K: Clock>(user: &mut K, idle: u64)
     }
 }
 
-/// Rounds until every run is closed or pending and each word was tried. After a round without an entry the user's clock
+/// Rounds until every run is closed or pending and each word was tried or is refused for good. After a round without an entry the user's clock
 /// rests. The only error is want of memory.
 pub(crate) fn rounds<
     T: Threads + Wait + Sync,
@@ -237,10 +252,10 @@ pub(crate) fn rounds<
 {
     let mut idle = 0u64;
     for _ in rt.forever() {
-        let wrote = go_on(rt, alloc, bench, words, asking, store, idle)?;
-        idle = idle_after(idle, wrote);
+        let grew = go_on(rt, alloc, bench, words, asking, store, idle)?;
+        idle = idle_after(idle, grew);
         if idle > 0 {
-            if is_over(asking, watch, store)? {
+            if is_over(alloc, words, asking, watch, store, idle)? {
                 return Ok(());
             }
             rest(&mut bench.user, idle);

@@ -46,8 +46,8 @@ fn task_run_refused(
     Ok(of_task_run(version, &task_run))
 }
 
-/// The refusal that is due at the journal's end, if any.
-fn refused(
+/// The refusal that an ask of this status gets at the journal's end, if any. The only error is want of memory.
+pub fn refused(
     alloc: Global,
     journal: &Journal,
     name: &str,

@@ -10,4 +10,4 @@ mod asking;
 pub mod refusal;
 
 pub use answer::AskAnswer;
-pub use asking::ask;
+pub use asking::{ask, refused};

@@ -9,7 +9,7 @@ use Rattle.tk_rounds.proofs.seats.ControllerMember.take_turn.Goals as goal
 pub returns-in_err-wrote-clause-follows : goal.returns-in_err-wrote-clause-follows
 returns-in_err-wrote-clause-follows g c start is =
     controller_follows g.G.Gate.answers g.K.Clock.readings g.K.Clock.last start (record c.args.self.now { lag = c.lag_of-self.result }) c.next-given.new.self c.turn-wrote.new.self c.next-given.result c.args.store.now c.turn-wrote.new.store
-    c.next-given.ensures.same c.next-given.ensures.gave c.turn-wrote.ensures.gate c.turn-wrote.ensures.number c.requires.ready c.turn-wrote.ensures.turn is
+    c.next-given.ensures.same c.next-given.ensures.gave c.turn-wrote.ensures.gate c.turn-wrote.ensures.number c.requires.ready c.turn-wrote.ensures.turn c.turn-wrote.ensures.chosen (record { since = is.since; chosen = is.chosen })
 
 pub returns-clause-grows : goal.returns-clause-grows
 returns-clause-grows g c =
@@ -20,4 +20,4 @@ returns-clause-grows g c =
 pub returns-clause-follows : goal.returns-clause-follows
 returns-clause-follows g c start is =
     controller_follows g.G.Gate.answers g.K.Clock.readings g.K.Clock.last start (record c.args.self.now { lag = c.lag_of-self.result }) c.next-given.new.self c.turn-wrote.new.self c.next-given.result c.args.store.now c.turn-wrote.new.store
-    c.next-given.ensures.same c.next-given.ensures.gave c.turn-wrote.ensures.gate c.turn-wrote.ensures.number c.requires.ready c.turn-wrote.ensures.turn is
+    c.next-given.ensures.same c.next-given.ensures.gave c.turn-wrote.ensures.gate c.turn-wrote.ensures.number c.requires.ready c.turn-wrote.ensures.turn c.turn-wrote.ensures.chosen (record { since = is.since; chosen = is.chosen })

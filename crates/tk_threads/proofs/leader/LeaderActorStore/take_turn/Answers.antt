@@ -28,5 +28,5 @@ returns-clause-follows g c start is =
     let shown = over_is (λ history. IsReadyController history m) before.history c.requires.1 in
     over_at (ControllerFollows g.G.Gate.answers g.K.Clock.readings g.K.Clock.last start.controller c.turn-wrote.new.self) after.history
     (controller_follows g.G.Gate.answers g.K.Clock.readings g.K.Clock.last start.controller is.before m c.turn-wrote.new.self c.args.self.now.given before after is.rest is.gave turn.gate turn.number
-    (subst (λ (x : Controller _ _). IsReadyController before.history x) is.rest shown) turn.turn
+    (subst (λ (x : Controller _ _). IsReadyController before.history x) is.rest shown) turn.turn turn.chosen
     (over_is (ControllerFollows g.G.Gate.answers g.K.Clock.readings g.K.Clock.last start.controller is.before) before.history is.stood))
