@@ -1,125 +1,130 @@
-use crate::sentences::{parts, said_of};
+use crate::bytes::said_of_bytes;
+use crate::choices::{choice, kind, missing, second, timeouts, unsupported};
+use crate::clashes::clashing_name;
+use crate::objects::{has_kind, objects_of};
+use crate::sentences::{Line, parts, sentence};
+use crate::weights::heaviest;
 use serde_json::Value;
 use std::alloc::{AllocError, Global};
 
-/// Whether a text begins with a line of YAML's form `key: value`, or as YAML's documents and comments do.
-fn begins_as_yaml(text: &str) -> bool {
-    if text.starts_with('{') || text.starts_with('[') || text.starts_with('"') {
-        return false;
-    }
-    match text.lines().next() {
-        Some(line) => line.contains(':') || line.starts_with("---") || line.starts_with('#'),
-        None => false,
-    }
-}
-
-/// What bytes that are no JSON look like, where that is plain, and what to do.
-fn likeness(bytes: &[u8]) -> Option<&'static str> {
-    if bytes.starts_with(b"\xEF\xBB\xBF") {
-        return Some(
-            "it begins with a byte order mark, which JSON doesn't have; remove its first three bytes",
-        );
-    }
-    let text = match std::str::from_utf8(bytes) {
-        Ok(text) => text.trim_start(),
-        Err(_) => return Some("it isn't text in UTF-8; write it in that encoding"),
-    };
-    if text.is_empty() {
-        return Some("it is empty; give it by `< INPUT.json` or by a pipe");
-    }
-    if begins_as_yaml(text) {
-        return Some("it looks like YAML; convert it, for example with `yq -o json`");
-    }
-    None
-}
-
-/// The bytes before a line and a column, both counted from 1, the column in bytes.
-fn before(bytes: &[u8], line: usize, column: usize) -> &[u8] {
-    let mut at_line = 1;
-    let mut at_column = 1;
-    for (place, byte) in bytes.iter().enumerate() {
-        if line <= at_line && column <= at_column {
-            return &bytes[..place];
-        }
-        if *byte == b'\n' {
-            at_line = at_line.saturating_add(1);
-            at_column = 1;
-        } else {
-            at_column = at_column.saturating_add(1);
-        }
-    }
-    bytes
-}
-
-/// Whether bytes are one JSON value.
-fn is_json(alloc: Global, bytes: &[u8]) -> bool {
-    match std::str::from_utf8(bytes) {
-        Ok(text) => Value::from_str(alloc, text).is_ok(),
-        Err(_) => false,
-    }
-}
-
-/// Where a text ends to be JSON, with the parser's words on it.
-fn whereabouts(alloc: Global, text: &str) -> Result<Option<String>, AllocError> {
-    let Err(error) = Value::from_str(alloc, text) else {
-        return Ok(None);
-    };
-    let told = format!(in alloc; "{error}")?;
-    if is_json(alloc, before(text.as_bytes(), error.line(), error.column())) {
-        return Ok(Some(format!(in alloc;
-            "{told}, where a second value begins; put all objects into one List"
-        )?));
-    }
-    Ok(Some(told))
-}
-
-/// What to say of bytes that are no JSON.
-fn said_of_bytes(alloc: Global, mut said: String, bytes: &[u8]) -> Result<String, AllocError> {
-    if let Some(likeness) = likeness(bytes) {
-        said.push_str(": ")?;
-        said.push_str(likeness)?;
-        return Ok(said);
-    }
-    let told = match std::str::from_utf8(bytes) {
-        Ok(text) => whereabouts(alloc, text)?,
-        Err(_) => None,
-    };
-    if let Some(told) = told {
-        said.push_str(": ")?;
-        said.push_str(told.as_str())?;
-    }
-    Ok(said)
-}
-
-/// Whether a value is an object of this kind.
-pub(crate) fn is_of_kind(value: &Value, kind: &str) -> bool {
-    match value.get("kind").and_then(Value::as_str) {
-        Some(name) => name == kind,
-        None => false,
-    }
-}
-
-/// Whether an input has an object of this kind, alone or in a List.
-fn has_kind(input: &Value, kind: &str) -> bool {
-    match input.get("items").and_then(Value::as_array) {
-        Some(items) => items.iter().any(|item| is_of_kind(item, kind)),
-        None => is_of_kind(input, kind),
-    }
-}
-
 /// Which of the objects that `decide` needs an input lacks.
-fn lacking(alloc: Global, bytes: &[u8]) -> Option<&'static str> {
-    let text = std::str::from_utf8(bytes).ok()?;
-    let input = Value::from_str(alloc, text).ok()?;
-    if !has_kind(&input, "PipelineRun") {
+fn lacking(input: &Value) -> Option<&'static str> {
+    let objects = objects_of(input);
+    if !has_kind(objects, "PipelineRun") {
         return Some("`decide` needs a PipelineRun; add one to the List");
     }
-    if !has_kind(&input, "Outcomes") {
+    if !has_kind(objects, "Outcomes") {
         return Some(
             "`decide` needs an Outcomes object beside the PipelineRun; add one to the List",
         );
     }
     None
+}
+
+/// What is said of a value that is no object and is the whole input.
+fn whole_shape(input: &Value, place: &str) -> Option<&'static str> {
+    if place == "$" && input.is_array() {
+        Some(
+            r#"the input is an array, where an object or a List is read; make a List of it, for example with `jq '{apiVersion: "v1", kind: "List", items: .}'`"#,
+        )
+    } else {
+        None
+    }
+}
+
+/// What is said of a fault by what stands at its place, where that says more than its number.
+fn sentence_at(number: &str, place: &str, input: &Value) -> Option<&'static str> {
+    match number {
+        "2" => whole_shape(input, place),
+        "4" => kind(input, place),
+        "5" => missing(place),
+        "7" => unsupported(place),
+        "9" => second(input, place),
+        "11" => choice(input, place),
+        "17" => timeouts(input, place),
+        _ => None,
+    }
+}
+
+/// The sentence on a fault of an input.
+fn sentence_of(line: Line<'_>, input: Option<&Value>) -> Option<&'static str> {
+    let general = sentence(line.number)?;
+    match (line.place, input) {
+        (Some(place), Some(input)) => {
+            Some(sentence_at(line.number, place, input).unwrap_or(general))
+        }
+        _ => Some(general),
+    }
+}
+
+/// The name that TaskRuns of two objects may both have, as it is said.
+fn clash_told(alloc: Global, line: Line<'_>, input: &Value) -> Result<Option<String>, AllocError> {
+    let (Some(later), Some(earlier)) = (line.place, line.details) else {
+        return Ok(None);
+    };
+    match clashing_name(alloc, input, later, earlier)? {
+        Some(name) => {
+            let name = name.as_str();
+            Ok(Some(format!(in alloc; "; the name is {name}")?))
+        }
+        None => Ok(None),
+    }
+}
+
+/// Which run weighs most, as it is said, where the weight is too great.
+fn weight_told(alloc: Global, line: Line<'_>, input: &Value) -> Result<Option<String>, AllocError> {
+    if line.place != Some("$") || !line.details.unwrap_or("").starts_with("200000 ") {
+        return Ok(None);
+    }
+    match heaviest(input) {
+        Some((kind, name)) => Ok(Some(format!(in alloc;
+            "; they are the entries that the runs may write: of a run seven and one for each task, of a TaskRun three, or four where it stands alone, of each attempt five and two for each step, and one for each ask; {kind} {name} weighs most"
+        )?)),
+        None => Ok(None),
+    }
+}
+
+/// What is said behind the place and the details.
+fn more_of(
+    alloc: Global,
+    line: Line<'_>,
+    input: Option<&Value>,
+) -> Result<Option<String>, AllocError> {
+    match (line.number, input) {
+        ("20", Some(input)) => clash_told(alloc, line, input),
+        ("21", Some(input)) => weight_told(alloc, line, input),
+        _ => Ok(None),
+    }
+}
+
+/// The sentence with the place and the details behind it.
+fn with_place(alloc: Global, sentence: &str, line: Line<'_>) -> Result<String, AllocError> {
+    let mut said = String::from_str(alloc, sentence)?;
+    if let Some(place) = line.place {
+        said.push_str(": ")?;
+        said.push_str(place)?;
+    }
+    if let Some(details) = line.details {
+        said.push_str(" ")?;
+        said.push_str(details)?;
+    }
+    Ok(said)
+}
+
+/// What to say of a line, where the input is this value, if it is one.
+fn said_of(
+    alloc: Global,
+    line: Line<'_>,
+    input: Option<&Value>,
+) -> Result<Option<String>, AllocError> {
+    let Some(sentence) = sentence_of(line, input) else {
+        return Ok(None);
+    };
+    let mut said = with_place(alloc, sentence, line)?;
+    if let Some(more) = more_of(alloc, line, input)? {
+        said.push_str(more.as_str())?;
+    }
+    Ok(Some(said))
 }
 
 /// What to say of an input whose line is `rejected NUMBER NAME` with its place and details: a sentence in plain words, and
@@ -129,12 +134,16 @@ pub fn advice(alloc: Global, line: &str, input: &[u8]) -> Result<Option<String>,
     let Some(line) = parts(line) else {
         return Ok(None);
     };
+    let parsed = match std::str::from_utf8(input) {
+        Ok(text) => Value::from_str(alloc, text).ok(),
+        Err(_) => None,
+    };
     if line.number == "5" && line.place == Some("$") {
-        if let Some(lacking) = lacking(alloc, input) {
+        if let Some(lacking) = parsed.as_ref().and_then(lacking) {
             return Ok(Some(String::from_str(alloc, lacking)?));
         }
     }
-    match said_of(alloc, line)? {
+    match said_of(alloc, line, parsed.as_ref())? {
         Some(said) if line.number == "1" => Ok(Some(said_of_bytes(alloc, said, input)?)),
         said => Ok(said),
     }

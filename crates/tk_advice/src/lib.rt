@@ -3,17 +3,27 @@
 //! promises for which status something is said, and which status comes of words that can't be had; of the others nothing but to
 //! return. Tests show each sentence (`tk_program_tests`).
 //!
-//! `sentences.rt` has a sentence for each of the 22 faults, `input.rt` what bytes look like that are no JSON and which
-//! object `decide` lacks, `words.rt` what is wrong with words that are no command, `start_warnings.rt` why what is
-//! admitted can't start, `ends.rt` what is said of a status.
+//! `sentences.rt` has a sentence for each of the 22 faults, `input.rt` chooses among them and those of `choices.rt`, which go
+//! by what stands at the place; `bytes.rt` tells what bytes look like that are no JSON, `clashes.rt` which name two TaskRuns may
+//! both have, `weights.rt` which run weighs most. `start_warnings.rt` says why what is admitted can't start, `culprits.rt` which
+//! Task, parameter, result or workspace it is, and `beside.rt` what is said beside a report. `words.rt` tells what is wrong with
+//! words that are no command, `ends.rt` what is said of a status, and `objects.rt` finds objects and places in a JSON value.
 #![tactic(auto)]
 
+mod beside;
+mod bytes;
+mod choices;
+mod clashes;
+mod culprits;
 mod ends;
 mod input;
+mod objects;
 mod sentences;
 mod start_warnings;
+mod weights;
 mod words;
 
+pub use beside::remarks;
 pub use ends::{message, unread_words};
 pub use input::advice;
 pub use start_warnings::{Unready, warnings};

@@ -1,7 +1,5 @@
-use std::alloc::{AllocError, Global};
-
 /// What is wrong with an input of which a fault of this number is the first, and what to do.
-fn sentence(number: &str) -> Option<&'static str> {
+pub(crate) fn sentence(number: &str) -> Option<&'static str> {
     match number {
         "1" => Some("the input isn't one JSON value; mend it"),
         "2" => Some(
@@ -11,7 +9,7 @@ fn sentence(number: &str) -> Option<&'static str> {
             "this apiVersion isn't read; write `tekton.dev/v1`, `tkn.local/v1` for Outcomes and a Scenario, or `v1` for a List",
         ),
         "4" => Some(
-            "this kind isn't read; the kinds are PipelineRun, Pipeline, TaskRun, Task, Outcomes, Scenario, and a List of these",
+            "this kind isn't read; the kinds are PipelineRun, Pipeline, TaskRun and Task, a List of these, and Outcomes for `decide` or a Scenario for `simulate`",
         ),
         "5" => Some("the last key of the place is missing; add it"),
         "6" => Some("there is no such field; correct its spelling or remove it"),
@@ -23,9 +21,7 @@ fn sentence(number: &str) -> Option<&'static str> {
             "this name, which stands behind the place, is there already; rename or remove one of the two",
         ),
         "10" => Some("this isn't a duration of at most a year, as `1h30m`, `90s` or `500ms`"),
-        "11" => Some(
-            "this value isn't one of those that may stand here; the Tekton documentation lists them",
-        ),
+        "11" => Some("this value isn't one of those that may stand here"),
         "12" => Some(
             "no task has the name behind the place; correct it, or add the task to `tasks`",
         ),
@@ -66,29 +62,28 @@ fn sentence(number: &str) -> Option<&'static str> {
 pub(crate) struct Line<'a> {
     pub(crate) number: &'a str,
     pub(crate) place: Option<&'a str>,
+    pub(crate) details: Option<&'a str>,
+}
+
+/// The place and the details of what stands behind the name of a fault.
+fn place_and_details(text: &str) -> (Option<&str>, Option<&str>) {
+    match text.split_once(' ') {
+        Some((place, details)) => (Some(place), Some(details)),
+        None => (Some(text), None),
+    }
 }
 
 /// The parts of such a line, and None of other lines.
 pub(crate) fn parts(line: &str) -> Option<Line<'_>> {
     let told = line.trim_end().strip_prefix("rejected ")?;
     let (number, named) = told.split_once(' ')?;
-    let place = match named.split_once(' ') {
-        Some((_, place)) => Some(place),
-        None => None,
+    let (place, details) = match named.split_once(' ') {
+        Some((_, behind)) => place_and_details(behind),
+        None => (None, None),
     };
-    Some(Line { number, place })
-}
-
-/// What to say of such a line: a sentence in plain words, and behind it the place and the details as they stand in the line.
-/// The only error is want of memory.
-pub(crate) fn said_of(alloc: Global, line: Line<'_>) -> Result<Option<String>, AllocError> {
-    let Some(sentence) = sentence(line.number) else {
-        return Ok(None);
-    };
-    let mut said = String::from_str(alloc, sentence)?;
-    if let Some(place) = line.place {
-        said.push_str(": ")?;
-        said.push_str(place)?;
-    }
-    Ok(Some(said))
+    Some(Line {
+        number,
+        place,
+        details,
+    })
 }

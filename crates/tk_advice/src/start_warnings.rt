@@ -1,4 +1,5 @@
-use crate::input::is_of_kind;
+use crate::culprits::{Among, culprit};
+use crate::objects::objects_of;
 use serde_json::Value;
 use std::alloc::{AllocError, Global};
 
@@ -27,9 +28,7 @@ fn sentence(reason: &str) -> &'static str {
         "CouldntGetPipeline" => {
             "no Pipeline has the name in its `pipelineRef`; add it in front of it"
         }
-        "CouldntGetTask" => {
-            "no Task has the name in one of its `taskRef`; add it in front of it"
-        }
+        "CouldntGetTask" => { "no Task has the name in its `taskRef`; add it in front of it" }
         "ParameterMissing" => {
             "a parameter has no value, or a reference takes more of it than is there; give it in `params`, or declare a `default`"
         }
@@ -46,93 +45,19 @@ fn sentence(reason: &str) -> &'static str {
     }
 }
 
-/// The text of a member of a member.
-fn text_in<'a>(value: &'a Value, outer: &str, inner: &str) -> Option<&'a str> {
-    value.get(outer)?.get(inner)?.as_str()
-}
-
-/// Where among objects the first of a kind and a name stands.
-fn place_of(objects: &[Value], kind: &str, name: &str) -> Option<usize> {
-    objects.iter().position(|object| {
-        is_of_kind(object, kind) && text_in(object, "metadata", "name") == Some(name)
-    })
-}
-
-/// Objects, and the place of one of them.
-#[derive(Clone, Copy)]
-struct Among<'a> {
-    objects: &'a [Value],
-    place: usize,
-}
-
-impl<'a> Among<'a> {
-    /// Whether an object of a kind and a name stands behind the place, and none in front of it.
-    fn is_behind(self, kind: &str, name: &str) -> bool {
-        match place_of(self.objects, kind, name) {
-            Some(found) => self.place < found,
-            None => false,
-        }
-    }
-
-    /// The name at `outer` and `inner`, where the object that it names stands only behind.
-    fn late_name(self, kind: &str, value: &'a Value, outer: &str) -> Option<&'a str> {
-        let name = text_in(value, outer, "name")?;
-        if self.is_behind(kind, name) {
-            Some(name)
-        } else {
-            None
-        }
-    }
-
-    /// The first Task that one of these tasks names and that stands only behind.
-    fn late_task(self, tasks: Option<&'a Value>) -> Option<&'a str> {
-        for task in tasks?.as_array()? {
-            if let Some(name) = self.late_name("Task", task, "taskRef") {
-                return Some(name);
-            }
-        }
-        None
-    }
-
-    /// The same of all tasks of a pipeline.
-    fn late_task_of(self, pipeline: &'a Value) -> Option<&'a str> {
-        match self.late_task(pipeline.get("tasks")) {
-            Some(name) => Some(name),
-            None => self.late_task(pipeline.get("finally")),
-        }
-    }
-
-    /// What a run's spec says of its tasks, or the Pipeline that it names.
-    fn pipeline_of(self, spec: &'a Value) -> Option<&'a Value> {
-        match spec.get("pipelineSpec") {
-            Some(pipeline) => Some(pipeline),
-            None => {
-                let name = text_in(spec, "pipelineRef", "name")?;
-                let place = place_of(self.objects, "Pipeline", name)?;
-                self.objects.get(place)?.get("spec")
-            }
-        }
-    }
-}
-
-/// The kind and the name of what an object names and what stands only behind it in a List.
-fn late<'a>(input: &'a Value, unready: Unready<'_>) -> Option<(&'static str, &'a str)> {
-    let objects = input.get("items")?.as_array()?.as_slice();
-    let place = place_of(objects, unready.kind(), unready.name)?;
-    let among = Among { objects, place };
-    let spec = objects.get(place)?.get("spec")?;
-    match unready.reason {
-        "CouldntGetPipeline" => {
-            Some((
-                "Pipeline",
-                among.late_name("Pipeline", spec, "pipelineRef")?,
-            ))
-        }
-        "CouldntGetTask" if unready.is_task_run => {
-            Some(("Task", among.late_name("Task", spec, "taskRef")?))
-        }
-        "CouldntGetTask" => Some(("Task", among.late_task_of(among.pipeline_of(spec)?)?)),
-        _ => None,
+/// What is the matter with one of them, as far as the input tells.
+fn matter(
+    alloc: Global,
+    input: Option<&Value>,
+    unready: Unready<'_>,
+) -> Result<Option<String>, AllocError> {
+    let among = match input {
+        Some(input) => Among::of(objects_of(input), unready.kind(), unready.name),
+        None => None,
+    };
+    match among {
+        Some(among) => culprit(alloc, among, unready.is_task_run, unready.reason),
+        None => Ok(None),
     }
 }
 
@@ -144,21 +69,12 @@ fn warning(
 ) -> Result<String, AllocError> {
     let kind = unready.kind();
     let Unready { name, reason, .. } = unready;
-    let late = match input {
-        Some(input) => late(input, unready),
-        None => None,
+    let matter = matter(alloc, input, unready)?;
+    let told = match &matter {
+        Some(matter) => matter.as_str(),
+        None => sentence(reason),
     };
-    match late {
-        Some((what, which)) => format!(in alloc;
-            "tkn: warning: {kind} {name} is admitted and can't start ({reason}): {what} {which} stands only behind it; put it in front of it"
-        ),
-        None => {
-            let sentence = sentence(reason);
-            format!(in alloc;
-                "tkn: warning: {kind} {name} is admitted and can't start ({reason}): {sentence}"
-            )
-        }
-    }
+    format!(in alloc; "tkn: warning: {kind} {name} is admitted and can't start ({reason}): {told}")
 }
 
 /// What to say beside an input of which these are admitted and can't start: a line for each, none behind the last. The only

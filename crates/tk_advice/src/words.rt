@@ -1,5 +1,6 @@
 use std::fmt;
 use std::fmt::{Display, Formatter};
+use tk_names::is_object_name;
 use tk_types::Text;
 
 /// How the commands are called.
@@ -130,14 +131,26 @@ fn is_status(word: &str) -> bool {
     )
 }
 
+/// What is wrong with an ask of a status, where its form tells.
+fn status_at_fault<'a>(word: &'a str, run: &str) -> BadWords<'a> {
+    if is_object_name(run) {
+        of_word(
+            "behind `@` of an ask stands a duration such as 90s or 1m30s",
+            word,
+        )
+    } else {
+        of_word(
+            "before `=` of an ask stands the name of a run: small letters, digits, `-` and `.`",
+            word,
+        )
+    }
+}
+
 /// What is wrong with an ask, where its form tells.
 fn ask_at_fault(word: &str) -> BadWords<'_> {
     match word.split_once('=') {
         Some((run, rest)) if !run.is_empty() => match rest.split_once('@') {
-            Some((status, _)) if is_status(status) => of_word(
-                "behind `@` of an ask stands a duration such as 90s or 1m30s, and before `=` the name of a run",
-                word,
-            ),
+            Some((status, _)) if is_status(status) => status_at_fault(word, run),
             _ => of_word(
                 "an ask has one of Start, StoppedRunFinally, CancelledRunFinally, Cancelled and TaskRunCancelled, then `@` and when",
                 word,
@@ -150,12 +163,44 @@ fn ask_at_fault(word: &str) -> BadWords<'_> {
     }
 }
 
+/// Where the reading of a duration stands: at its beginning, behind a digit, behind an `m`, which may be the front of `ms`, or
+/// behind another unit.
+#[derive(Clone, Copy, PartialEq, Eq)]
+enum Behind {
+    Nothing,
+    Digit,
+    Minute,
+    Unit,
+}
+
+/// Where it stands behind a further byte, and None where no duration goes on so.
+fn read_on(before: Behind, byte: u8) -> Option<Behind> {
+    match (before, byte) {
+        (_, b'0'..=b'9') => Some(Behind::Digit),
+        (Behind::Digit, b'm') => Some(Behind::Minute),
+        (Behind::Digit, b'h' | b's') | (Behind::Minute, b's') => Some(Behind::Unit),
+        _ => None,
+    }
+}
+
+/// Whether a text has the form of a duration: `0`, or numbers with units.
+fn is_duration(text: &str) -> bool {
+    let mut at = Behind::Nothing;
+    for byte in text.bytes() {
+        match read_on(at, byte) {
+            Some(next) => at = next,
+            None => return false,
+        }
+    }
+    text == "0" || at == Behind::Minute || at == Behind::Unit
+}
+
 /// Whether a word has the form of an ask.
 fn is_ask(word: &str) -> bool {
     match word.split_once('=') {
-        Some((_, rest)) => match rest.split_once('@') {
+        Some((run, rest)) => match rest.split_once('@') {
             Some((status, duration)) => {
-                is_status(status) && duration.ends_with(|c: char| c.is_ascii_alphanumeric())
+                is_object_name(run) && is_status(status) && is_duration(duration)
             }
             None => false,
         },

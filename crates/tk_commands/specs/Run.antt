@@ -68,14 +68,15 @@ module _ {K H G : Type 0} (answers : G → Option (List GateTurn)) (readings : K
       ((history ≡ []) × (new ≡ old))
       ⊎ ((fault_by options.asks bytes ≡ None) × IsRun answers readings last told killed faults options.root options.asks (given_by options.root options.asks bytes) old new history)
 
-  -- so of the bytes of an input
-  abbrev pub RunsSoFarOf : RunOptions → Option (List ℕ) → Bench K H G → Bench K H G → List Entry → Type 0
-  RunsSoFarOf options left old new history = ((history ≡ []) × (new ≡ old)) ⊎ ((bytes : List ℕ) × Told left bytes × RunsSoFar options bytes old new history)
+  -- so of the bytes of an input, which was read to its end where anything was run
+  abbrev pub RunsSoFarOf : RunOptions → Option (List ℕ) → Bool → Bench K H G → Bench K H G → List Entry → Type 0
+  RunsSoFarOf options left ended old new history =
+      ((history ≡ []) × (new ≡ old)) ⊎ ((bytes : List ℕ) × Told left bytes × IsOver ended bytes × RunsSoFar options bytes old new history)
 
   -- where nothing is answered: the input failed, and the bench is as it was; or memory ran out
-  abbrev pub LeftBy : RunOptions → Option (List ℕ) → Bench K H G → Bench K H G → Unrun → Type 0
-  LeftBy options left old new unrun.Failed = new ≡ old
-  LeftBy options left old new (unrun.Memory journal) = RunsSoFarOf options left old new journal.history
+  abbrev pub LeftBy : RunOptions → Option (List ℕ) → Bool → Bench K H G → Bench K H G → Unrun → Type 0
+  LeftBy options left ended old new unrun.Failed = new ≡ old
+  LeftBy options left ended old new (unrun.Memory journal) = RunsSoFarOf options left ended old new journal.history
 
 -- the count of a source's faults: one more where the input failed, and as it was where not
 abbrev pub CountsRun : {T : Type 0} → ℕ → ℕ → Result T Unrun → Type 0

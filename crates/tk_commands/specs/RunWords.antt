@@ -3,6 +3,7 @@ use Rattle.std.specs.Prelude.{ℕ, ◌+◌, ◌==◌, Bool, true, false, List, [
 use Rattle.std.specs.List.{position}
 use Rattle.tk_types.specs.declared.object.Asked.{Asked}
 use Rattle.tk_types.specs.declared.object.Asked.TheVariants as asks
+use Rattle.tk_names.specs.Rules.{is_object_name}
 use Rattle.tk_time.specs.Duration.{duration_of}
 use Rattle.tk_run.specs.declared.asks.AskWord.{AskWord}
 use Rattle.tk_words.specs.declared.line.Line.{Line}
@@ -26,7 +27,7 @@ abbrev pub is_empty : List ℕ → Bool
 is_empty [] = true
 is_empty (byte ∷ bytes) = false
 
--- an ask `RUN=STATUS@DURATION`
+-- an ask `RUN=STATUS@DURATION`, where RUN may name an object
 
 abbrev pub asked_of : List ℕ → Option Asked
 asked_of word =
@@ -48,7 +49,7 @@ ask_behind run (Some words) = ask_with run (asked_of words.front) (duration_of w
 
 abbrev pub ask_in : Option Halves → Option AskWord
 ask_in None = None
-ask_in (Some words) = if is_empty words.front then None else ask_behind words.front (halves 64 words.back)
+ask_in (Some words) = if is_object_name words.front then ask_behind words.front (halves 64 words.back) else None
 
 abbrev pub ask_of : List ℕ → Option AskWord
 ask_of word = ask_in (halves 61 word)

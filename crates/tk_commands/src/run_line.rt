@@ -2,6 +2,7 @@ ghost use Rattle.std.specs.Prelude.{◌≡◌, IfOk, unwrap_or};
 ghost use Rattle.tk_commands.specs.RunWords.{ask_of, asked_of, asks_in, default_root, run_in, run_options};
 
 use std::alloc::{AllocError, Global};
+use tk_names::is_object_name;
 use tk_run::AskWord;
 use tk_time::read_duration;
 use tk_types::{Asked, List, Text};
@@ -32,7 +33,7 @@ fn status_named(word: &str) -> Option<Asked>
     }
 }
 
-/// What a word `RUN=STATUS@DURATION` asks. The only error is want of memory.
+/// What a word `RUN=STATUS@DURATION` asks, where RUN may name an object. The only error is want of memory.
 fn read_ask(alloc: Global, word: &str) -> Result<Option<AskWord>, AllocError>
     ensures { IfOk result (λ ask. ask ≡ ask_of word.now) }
 {
@@ -44,7 +45,7 @@ fn read_ask(alloc: Global, word: &str) -> Result<Option<AskWord>, AllocError>
         Some(halves) => halves,
         None => return Ok(None),
     };
-    if run.is_empty() {
+    if !is_object_name(run) {
         return Ok(None);
     }
     match (status_named(status), read_duration(duration)) {

@@ -105,7 +105,7 @@ fn read_and_run<
     requires bench { IsNewBench H.told bench.old }
     ensures due { IfOk result (IsRunDue G.answers K.readings K.last H.told H.killed H.faults options.now (R.left input.old) (R.ended input.new) bench.old bench.new) }
     ensures answer { IfOk result (λ answer. is_answer answer.due.status ≡ true) }
-    ensures err { IfErr result (LeftBy G.answers K.readings K.last H.told H.killed H.faults options.now (R.left input.old) bench.old bench.new) }
+    ensures err { IfErr result (LeftBy G.answers K.readings K.last H.told H.killed H.faults options.now (R.left input.old) (R.ended input.new) bench.old bench.new) }
     ensures faults { CountsRun (R.faults input.old) (R.faults input.new) result }
 {
     match read_all(alloc, input) {
@@ -146,7 +146,7 @@ fn run_input<
     ensures input_failed { result.status ≡ 4 → (sink.new ≡ sink.old) × (bench.new ≡ bench.old) × (result.journal.history ≡ []) }
     ensures sink_faults { W.faults sink.new ≡ (if result.status == 5 then raised (W.faults sink.old) else W.faults sink.old) }
     ensures sink_failed_front { result.status ≡ 5 → PrintsFrontOf (IsRunDue G.answers K.readings K.last H.told H.killed H.faults options.now (R.left input.old) (R.ended input.new) bench.old bench.new) (W.written sink.old) (W.written sink.new) result.journal.history }
-    ensures memory { result.status ≡ 6 → IsCutShort (sink.new ≡ sink.old) (RunsSoFarOf G.answers K.readings K.last H.told H.killed H.faults options.now (R.left input.old) bench.old bench.new result.journal.history) (PrintsFrontOf (IsRunDue G.answers K.readings K.last H.told H.killed H.faults options.now (R.left input.old) (R.ended input.new) bench.old bench.new) (W.written sink.old) (W.written sink.new) result.journal.history) }
+    ensures memory { result.status ≡ 6 → IsCutShort (sink.new ≡ sink.old) (RunsSoFarOf G.answers K.readings K.last H.told H.killed H.faults options.now (R.left input.old) (R.ended input.new) bench.old bench.new result.journal.history) (PrintsFrontOf (IsRunDue G.answers K.readings K.last H.told H.killed H.faults options.now (R.left input.old) (R.ended input.new) bench.old bench.new) (W.written sink.old) (W.written sink.new) result.journal.history) }
 {
     match read_and_run(rt, alloc, options, input, bench) {
         Ok(Answer { due, journal, .. }) => print(sink, due, journal),
@@ -184,7 +184,7 @@ fn run_command<
     ensures input_failed { result.status ≡ 4 → (sink.new ≡ sink.old) × (bench.new ≡ bench.old) × (result.journal.history ≡ []) }
     ensures sink_faults { W.faults sink.new ≡ (if result.status == 5 then raised (W.faults sink.old) else W.faults sink.old) }
     ensures sink_failed_front { (options : Options) → run_options words.now ≡ Some options → result.status ≡ 5 → PrintsFrontOf (IsRunDue G.answers K.readings K.last H.told H.killed H.faults options (R.left input.old) (R.ended input.new) bench.old bench.new) (W.written sink.old) (W.written sink.new) result.journal.history }
-    ensures memory { (options : Options) → run_options words.now ≡ Some options → result.status ≡ 6 → IsCutShort (sink.new ≡ sink.old) (RunsSoFarOf G.answers K.readings K.last H.told H.killed H.faults options (R.left input.old) bench.old bench.new result.journal.history) (PrintsFrontOf (IsRunDue G.answers K.readings K.last H.told H.killed H.faults options (R.left input.old) (R.ended input.new) bench.old bench.new) (W.written sink.old) (W.written sink.new) result.journal.history) }
+    ensures memory { (options : Options) → run_options words.now ≡ Some options → result.status ≡ 6 → IsCutShort (sink.new ≡ sink.old) (RunsSoFarOf G.answers K.readings K.last H.told H.killed H.faults options (R.left input.old) (R.ended input.new) bench.old bench.new result.journal.history) (PrintsFrontOf (IsRunDue G.answers K.readings K.last H.told H.killed H.faults options (R.left input.old) (R.ended input.new) bench.old bench.new) (W.written sink.old) (W.written sink.new) result.journal.history) }
 {
     match run_words(alloc, words) {
         Ok(Some(options)) => run_input(rt, alloc, &options, input, sink, bench),
@@ -230,7 +230,7 @@ pub fn tkn<
     // for 5 a front of it
     ensures run_sink_failed { (options : Options) → run_of words.now ≡ Some (Some options) → result.status ≡ 5 → PrintsFrontOf (IsRunDue G.answers K.readings K.last H.told H.killed H.faults options (R.left input.old) (R.ended input.new) bench.old bench.new) (W.written sink.old) (W.written sink.new) result.journal.history }
     // for 6 too, or nothing was written, and the runs came so far and all that still ran was killed
-    ensures run_memory { (options : Options) → run_of words.now ≡ Some (Some options) → result.status ≡ 6 → IsCutShort (sink.new ≡ sink.old) (RunsSoFarOf G.answers K.readings K.last H.told H.killed H.faults options (R.left input.old) bench.old bench.new result.journal.history) (PrintsFrontOf (IsRunDue G.answers K.readings K.last H.told H.killed H.faults options (R.left input.old) (R.ended input.new) bench.old bench.new) (W.written sink.old) (W.written sink.new) result.journal.history) }
+    ensures run_memory { (options : Options) → run_of words.now ≡ Some (Some options) → result.status ≡ 6 → IsCutShort (sink.new ≡ sink.old) (RunsSoFarOf G.answers K.readings K.last H.told H.killed H.faults options (R.left input.old) (R.ended input.new) bench.old bench.new result.journal.history) (PrintsFrontOf (IsRunDue G.answers K.readings K.last H.told H.killed H.faults options (R.left input.old) (R.ended input.new) bench.old bench.new) (W.written sink.old) (W.written sink.new) result.journal.history) }
     // `generate` reads nothing, and only its words make it usage
     ensures generate_words { (found : Option Wanted) → generate_of words.now ≡ Some found → (result.status ≡ 2 → found ≡ None) × (input.new ≡ input.old) }
     // for 0 and 3 just what is due is printed, and the journal is the one that was counted

@@ -6,6 +6,9 @@ ghost use Rattle.tk_program_tests.specs.Each.{Each};
 
 use crate::rows::{failing, number, option};
 use std::alloc::{AllocError, Global};
+use std::hint::spin_loop;
+use std::sync::Arc;
+use std::sync::atomic::{AtomicU32, Ordering};
 use tk_edge::{Fresh, Gate, GateTurn, Host, ListGate, ManualClock};
 use tk_rounds::{Bench, Controller, Node};
 use tk_script::{PodScript, ScriptHost};
@@ -82,12 +85,37 @@ fn lists(alloc: Global) -> Result<ListGate, AllocError> {
     Ok(ListGate::new(List::from_vec(answers)))
 }
 
-/// A gate with answers of its own, or one that pauses so many times and then keeps its cache fresh. Behind a round that came
-/// to nothing controllers and nodes are asked in threads now and then, so members whose gates pause first work there.
+/// How often a gate looks for another that is asked meanwhile.
+const LOOKS: u32 = 2_000_000;
+
+/// A gate with answers of its own, one that pauses so many times and then keeps its cache fresh, or one that pauses until it
+/// was asked while another was. Behind a round that came to nothing controllers and nodes are asked in threads now and then,
+/// so members whose gates pause first work there, and there alone two of them are asked at once.
 #[derive(Drop)]
 pub(crate) enum TestGate {
     Listed(ListGate),
-    Late { pauses: u64, fresh: Fresh },
+    Late {
+        pauses: u64,
+        fresh: Fresh,
+    },
+    Meeting {
+        asked: Arc<AtomicU32>,
+        met: bool,
+        fresh: Fresh,
+    },
+}
+
+/// Whether two gates are asked at once, this one among them. Where they are, it counts as asked from then on.
+fn meets(asked: &AtomicU32) -> bool {
+    asked.fetch_add(1, Ordering::SeqCst);
+    for _ in 0..LOOKS {
+        if asked.load(Ordering::SeqCst) > 1 {
+            return true;
+        }
+        spin_loop();
+    }
+    asked.fetch_sub(1, Ordering::SeqCst);
+    false
 }
 
 impl Gate for TestGate {
@@ -103,15 +131,28 @@ impl Gate for TestGate {
                 }
                 fresh.next(lag)
             }
+            TestGate::Meeting { asked, met, fresh } => {
+                *met = *met || meets(asked);
+                if *met {
+                    fresh.next(lag)
+                } else {
+                    GateTurn::Pause
+                }
+            }
         }
     }
 }
 
-/// The gate that the options say.
-fn gate(alloc: Global, options: &str) -> Result<TestGate, AllocError> {
+/// The gate that the options say. Gates that meet count those that are asked in `asked`.
+fn gate(alloc: Global, options: &str, asked: &Arc<AtomicU32>) -> Result<TestGate, AllocError> {
     match option(options, "gate") {
         Some("single") => Ok(TestGate::Listed(single(alloc)?)),
         Some("lists") => Ok(TestGate::Listed(lists(alloc)?)),
+        Some("meets") => Ok(TestGate::Meeting {
+            asked: Arc::try_clone(asked)?,
+            met: false,
+            fresh: Fresh::new(),
+        }),
         _ => Ok(TestGate::Late {
             pauses: number(options, "pauses").unwrap_or(0),
             fresh: Fresh::new(),
@@ -120,21 +161,29 @@ fn gate(alloc: Global, options: &str) -> Result<TestGate, AllocError> {
 }
 
 /// A controller over a clock that stands still.
-fn controller(alloc: Global, options: &str) -> Result<Controller<ManualClock, TestGate>, AllocError>
+fn controller(
+    alloc: Global,
+    options: &str,
+    asked: &Arc<AtomicU32>,
+) -> Result<Controller<ManualClock, TestGate>, AllocError>
     ensures { IfOk result IsNewController }
 {
-    let gate = gate(alloc, options)?;
+    let gate = gate(alloc, options, asked)?;
     Ok(Controller::new(alloc, ManualClock::new(alloc), gate))
 }
 
 /// A node over such a clock and a host that plays the scripts, of which a call may fail.
-fn node(alloc: Global, options: &str) -> Result<Node<ManualClock, ScriptHost, TestGate>, AllocError>
+fn node(
+    alloc: Global,
+    options: &str,
+    asked: &Arc<AtomicU32>,
+) -> Result<Node<ManualClock, ScriptHost, TestGate>, AllocError>
     ensures { IfOk result (IsNewNode (⟦<ScriptHost as Host>⟧.told)) }
 {
     let root = Text::from_str(alloc, "/work")?;
     let failing = failing(alloc, options, "host")?;
     let host = ScriptHost::new(alloc, root, scripts(alloc)?, failing)?;
-    let gate = gate(alloc, options)?;
+    let gate = gate(alloc, options, asked)?;
     Ok(Node::new(alloc, ManualClock::new(alloc), host, gate))
 }
 
@@ -143,13 +192,14 @@ fn controllers(
     alloc: Global,
     count: usize,
     options: &str,
+    asked: &Arc<AtomicU32>,
 ) -> Result<Vec<Controller<ManualClock, TestGate>>, AllocError>
     ensures count { IfOk result (λ made. length made.items ≡ count) }
     ensures new { IfOk result (λ made. Each IsNewController made.items) }
 {
     let mut made = Vec::new(alloc);
     for _ in 0..count {
-        let controller = controller(alloc, options)?;
+        let controller = controller(alloc, options, asked)?;
         made.push(controller)?;
     }
     Ok(made)
@@ -160,13 +210,14 @@ fn nodes(
     alloc: Global,
     count: usize,
     options: &str,
+    asked: &Arc<AtomicU32>,
 ) -> Result<Vec<Node<ManualClock, ScriptHost, TestGate>>, AllocError>
     ensures count { IfOk result (λ made. length made.items ≡ count) }
     ensures new { IfOk result (λ made. Each (IsNewNode (⟦<ScriptHost as Host>⟧.told)) made.items) }
 {
     let mut made = Vec::new(alloc);
     for _ in 0..count {
-        let node = node(alloc, options)?;
+        let node = node(alloc, options, asked)?;
         made.push(node)?;
     }
     Ok(made)
@@ -190,9 +241,10 @@ pub(crate) fn bench(
     ensures { IfOk result (IsNewBench (⟦<ScriptHost as Host>⟧.told)) }
 {
     let count = members(options);
+    let asked = Arc::new(alloc, AtomicU32::new(0))?;
     Ok(Bench {
-        controllers: controllers(alloc, count, options)?,
-        kubelets: nodes(alloc, count, options)?,
+        controllers: controllers(alloc, count, options, &asked)?,
+        kubelets: nodes(alloc, count, options, &asked)?,
         user: ManualClock::new(alloc),
     })
 }

@@ -101,22 +101,22 @@ check
 check
 {@run, "spec": {"pipelineRef": {"name": "p"}}}
 => 0 ok 1
-tkn: warning: PipelineRun r is admitted and can't start (CouldntGetPipeline): no Pipeline has the name in its `pipelineRef`; add it in front of it
+tkn: warning: PipelineRun r is admitted and can't start (CouldntGetPipeline): no Pipeline has the name p; add one in front of it
 
 check
 {@list, "items": [
     {@run, "spec": {"pipelineSpec": {"tasks": [{"name": "a", "taskRef": {"name": "t"}}]}}},
     {"apiVersion": "tekton.dev/v1", "kind": "Task", "metadata": {"name": "t"}, "spec": {"steps": [{"command": ["true"]}]}}]}
 => 0 ok 2
-tkn: warning: PipelineRun r is admitted and can't start (CouldntGetTask): Task t stands only behind it; put it in front of it
+tkn: warning: PipelineRun r is admitted and can't start (CouldntGetTask): Task t of pipeline task a stands only behind it; put it in front of it
 
 check
 {@list, "items": [
     {@run, "spec": {"pipelineSpec": {"params": [{"name": "p"}], "tasks": [{"name": "a", @step}]}}},
     {"apiVersion": "tekton.dev/v1", "kind": "TaskRun", "metadata": {"name": "q"}, "spec": {"taskRef": {"name": "t"}}}]}
 => 0 ok 2
-tkn: warning: PipelineRun r is admitted and can't start (ParameterMissing): a parameter has no value, or a reference takes more of it than is there; give it in `params`, or declare a `default`
-tkn: warning: TaskRun q is admitted and can't start (CouldntGetTask): no Task has the name in one of its `taskRef`; add it in front of it
+tkn: warning: PipelineRun r is admitted and can't start (ParameterMissing): parameter p of the Pipeline has no value; give it in the run's `params`, or declare a `default`
+tkn: warning: TaskRun q is admitted and can't start (CouldntGetTask): no Task has the name t; add one in front of it
 
 # Each rule, and of two rules the one that is told.
 check

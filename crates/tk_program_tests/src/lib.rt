@@ -3,7 +3,7 @@
 //!
 //! `rows.rt` plays rows of text over a bench in memory, which `bench.rt` makes; `decide_rows.rt`, `check_rows.rt`,
 //! `simulate_rows.rt` and `run_rows.rt` have the rows, `command_tests.rt` tries them. `answers.rt` has the answers of a world,
-//! `meeting.rt` a round in threads over the benches of `begun.rt`.
+//! `meeting.rt` a round in threads over the benches of `begun.rt`, `file_tests.rt` the file of a played journal.
 #![tactic(auto)]
 
 #[cfg(test)]
@@ -24,6 +24,8 @@ mod data_tests;
 mod decide_rows;
 #[cfg(test)]
 mod decision_tests;
+#[cfg(test)]
+mod file_tests;
 #[cfg(test)]
 mod generated_tests;
 #[cfg(test)]

@@ -149,6 +149,22 @@ run =Cancelled@1s
 {
 => 2
 
+run R=Cancelled@1s
+{
+=> 2
+
+# Asks that are refused for good aren't waited for: of a run that isn't there, and of one that is closed.
+run q=Cancelled@90s r=Cancelled@90s
+{@run, "spec": {"pipelineSpec": {"tasks": [{"name": "a", @step}]}}}
+=> 0 pipelinerun r True Succeeded
+  taskrun r-a a 0 Succeeded attempts 1
+
+# Gates that let their members work once two of them were asked at once, which only threads do.
+run | members 1 | gate meets
+{@run, "spec": {"pipelineSpec": {"tasks": [{"name": "a", @step}]}}}
+=> 0 pipelinerun r True Succeeded
+  taskrun r-a a 0 Succeeded attempts 1
+
 # Gates that let their members see one entry at a time: the second entry is written by one that saw the first alone.
 run | members 1 | gate single | tell fronts
 {@run, "spec": {"pipelineSpec": {"tasks": [{"name": "a", "taskSpec": {"steps": [{"name": "s", "image": "i", "script": "true"}]}}]}}}
