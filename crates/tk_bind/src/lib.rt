@@ -14,6 +14,18 @@
 //! `Selector.antt` what a selector fits, `Substitute.antt` and `Params.antt` the values, `Fits.antt` which bindings fit
 //! a body. `proofs/TextExamples.antt`, `BindingExamples.antt`, `CheckExamples.antt` and `FittingExamples.antt` have
 //! worked rows by computation; the tests show that a built call gives such answers.
+//!
+//! ```text
+//! let env = Env { params, results, words };
+//! let text = substitute(alloc, "$(params.t)-x", &env)?;            // "s-x" where the parameter t is the text s
+//!
+//! let index = index_of(alloc, &env)?;                              // for many texts over one environment
+//! let lookup = Lookup::new(&index, words_of_the_task);
+//! let text = lookup.substitute(alloc, "$(params.t)-x")?;
+//! ```
+//!
+//! Both ask that the text has a reading, which `check_text` tells, as `scan` of `tk_vars` does. The error is the first reference
+//! without a value, or want of memory.
 #![tactic(auto)]
 
 mod bind;

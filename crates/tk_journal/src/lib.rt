@@ -15,6 +15,15 @@
 //! `Lasting.antt`, `RunLasts.antt` and `TaskRunLasts.antt` one step of the induction, `Induction.antt` the induction,
 //! `Stuck.antt`, `Weighed.antt` and `Folders.antt` the other laws, `RowOne.antt` a worked run from admission to its
 //! end, `PlanExamples.antt` plans of pods.
+//!
+//! ```text
+//! let mut journal = Journal::with_room(alloc, room)?;
+//! journal.push(Entry { actor, fronts, moment, act })?;             // takes no memory while there is room
+//! let entry = journal.entry(1);                                    // positions begin with 1
+//! let run = journal.run_at(alloc, "build-00001", journal.len())?;  // as all entries so far leave it
+//! ```
+//!
+//! That an entry is justified is no matter of `push`: `tk_store` asks it, and the laws speak of journals in which each is.
 #![tactic(auto)]
 
 mod act;

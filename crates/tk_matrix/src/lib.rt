@@ -4,6 +4,17 @@
 //!
 //! `size.rt` counts without memory, `listing.rt` gives one combination or all, with `indexmap` to keep named values in
 //! place.
+//!
+//! ```text
+//! let number = count(&matrix)?;               // or TooLarge, which tells how many there are
+//! for index in 0..number {
+//!     let params = combination(alloc, &matrix, index)?;
+//! }
+//! let every = all(alloc, &matrix)?;           // the same, all at once
+//! ```
+//!
+//! `count` and both others ask that the matrix has lists (`HasLists`), `combination` an index below the count, and `all` that
+//! the count isn't too large.
 #![tactic(auto)]
 
 mod choice;

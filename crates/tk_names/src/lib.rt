@@ -4,6 +4,14 @@
 //!
 //! `children.rt` has the names of children, pods and generated objects, `rules.rt` the rules that names obey, each
 //! decided both ways, `clashes.rt` the first name that stood earlier.
+//!
+//! ```text
+//! child_name(alloc, "r", "t", Some(0))?       "r-t-0"
+//! pod_name(alloc, "r-a", 2)?                  "r-a-pod-2"
+//! generated(alloc, "build-", 36)?             "build-00010"
+//! is_object_name("a.b")                       true
+//! clash(alloc, &[a, b, a])?                   Some((0, 2)), where a and b are texts that differ
+//! ```
 #![tactic(auto)]
 
 mod children;

@@ -13,6 +13,16 @@
 //! in the lock's own words, which a law draws from it. In `proofs/`, `Numbers` counts seats and numbers, `Seats` has
 //! what the rule says of one seat, `Steps` each step on a word, `Shares` splits, joins and the end, `Implied` the rule,
 //! `Calls` the same steps as the calls take them.
+//!
+//! ```text
+//! let Ok((lock, mut pass)) = TurnLock::new(alloc, state) else { .. };  // the pass owns every number; an error has the state
+//! let mine = lock.split(&mut pass, 1);                             // a pass for a thread, which alone writes entries of number 1
+//! let mut held = lock.take(rt, mine);                              // waits for its turn
+//! held.state().add(1, value);                                      // what it adds is of its own number
+//! let mine = lock.give(held);
+//! lock.join(&mut pass, mine);
+//! let state = lock.close(pass);                                    // with all that was seen
+//! ```
 #![tactic(auto)]
 
 pub mod held;

@@ -19,6 +19,15 @@
 //! on `proofs/GoodStays.antt`: a good parent has the same children after each step and stays good; with children since
 //! all ended and only a task that is ready gets more, without since its guard skips it and its own parents are good.
 //! Texts see results of parents alone, so what they give stays.
+//!
+//! ```text
+//! let decision = Decision::new(alloc, &facts)?;                    // asks that the facts are well formed
+//! let labels = decision.labels(alloc)?;
+//! match decision.condition_with(alloc, labels.as_slice())? {
+//!     Some(condition) => ..,                                       // the run is finished; `results` gives its results
+//!     None => ..,                                                  // it goes on; `ready_with` has the bindings of a task
+//! }
+//! ```
 #![tactic(auto)]
 
 mod available;
